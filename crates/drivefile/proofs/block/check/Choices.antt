@@ -1,0 +1,7 @@
+use Prim.Native.Nat.{_*_, _≤_}
+use mathlib.Core.Path.{_≡_}
+use Rattle.drivefile.specs.Block.{weighted}
+use Rattle.drivefile.proofs.block.check.Given as given
+
+abbrev pub Inv-loop-i : given.InvT-loop-i
+Inv-loop-i l = (l .sum ≡ weighted (l .block) (l .i)) × (l .sum ≤ 16711425 * l .i)

@@ -1,0 +1,6 @@
+mod EnvelopeLaws
+mod Lawful
+pub mod Ranges
+mod RollLaws
+mod StrokeLaws
+mod Steps
