@@ -32,3 +32,7 @@ fill-front f d i h =
     ∙ set-at (map f (counting 0 i)) _ _ (f i) i (length-map-counting f 0 i)
     ∙ sym (append-assoc (map f (counting 0 i)) (f i ∷ []) (drop (i + 1) d))
     ∙ ap (λ (t : List ℕ). t ++ drop (i + 1) d) (sym (map-counting-more f 0 i i (zero-add i)))
+
+-- once i has come to n, the front is whole
+pub whole-front : (f : ℕ → ℕ) (d out : List ℕ) (i n : ℕ) → i ≡ n → out ≡ map f (counting 0 i) ++ drop i d → out ≡ map f (counting 0 n) ++ drop n d
+whole-front f d out i n e h = h ∙ ap (λ (k : ℕ). map f (counting 0 k) ++ drop k d) e

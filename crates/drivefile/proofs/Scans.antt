@@ -1,5 +1,5 @@
 -- The steps of the loops over a block's bytes.
-use mathlib.Core.Path.{_≡_, refl}
+use mathlib.Core.Path.{_≡_, refl, ap, _∙_}
 use mathlib.Core.List.{List}
 use Prim.Native.Nat.{ℕ, suc, _+_, _-_, _*_, _<_, _≤_}
 use native.Mathlib.Numerals.{add-one}
@@ -8,7 +8,7 @@ use lib.ListN.{getD}
 use Rattle.std.proofs.shelf.Bits.{mul-le}
 use Rattle.std.proofs.shelf.Tests.{le-ltb, lt-ltb}
 use Rattle.std.specs.declared.option.Option.the-variants.{None, Some}
-use Rattle.drivefile.specs.Block.{first-from, weighted}
+use Rattle.drivefile.specs.Block.{first-from, weighted, weighted-sum}
 use Rattle.drivefile.specs.Bytes.{le16}
 
 module _ (limit : ℕ) (bs : List ℕ) (i to : ℕ) (more : i < to) where
@@ -28,6 +28,11 @@ module _ (limit : ℕ) (bs : List ℕ) (i to : ℕ) (more : i < to) where
 -- one more term of the weighted sum
 pub weighted-more : (bs : List ℕ) (i : ℕ) → weighted bs (i + 1) ≡ weighted bs i + (i + 1) * le16 bs (2 * i)
 weighted-more bs i = rw (add-one i) refl
+
+-- the sum of 255 terms is the whole sum
+pub weighted-all : (bs : List ℕ) (i s : ℕ) → i ≡ 255 → s ≡ weighted bs i → s ≡ weighted-sum bs
+unfolding weighted-sum
+weighted-all bs i s e h = h ∙ ap (weighted bs) e
 
 -- a term of the sum is at most 255 × 65,535
 pub term-fits : (i w : ℕ) → i < 255 → w < 65536 → (i + 1) * w ≤ 16711425

@@ -20,9 +20,13 @@ abbrev pub weighted : List ℕ → ℕ → ℕ
 weighted bs zero = 0
 weighted bs (suc i) = weighted bs i + suc i * le16 bs (2 * i)
 
--- the check: that sum over w(0) to w(254), modulo 65,521
-unfoldable pub check-of : List ℕ → ℕ
-check-of bs = weighted bs 255 % 65521
+-- that sum over w(0) to w(254), all the numbers before the check
+unfoldable pub weighted-sum : List ℕ → ℕ
+weighted-sum bs = weighted bs 255
+
+-- the check: the sum modulo 65,521
+abbrev pub check-of : List ℕ → ℕ
+check-of bs = weighted-sum bs % 65521
 
 -- kind, number, item count and the two zero bytes are those due
 abbrev pub frame : ℕ → Due → List ℕ → Result (Unit {0}) BlockFault

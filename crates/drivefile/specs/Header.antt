@@ -1,7 +1,8 @@
 -- The header: block 0, its values and their ranges, in the order of the tests.
 use mathlib.Core.Bool.{Bool, cond, _&&_}
 use mathlib.Core.List.{List}
-use Prim.Native.Nat.{ℕ, _+_, _-_, _/_}
+use mathlib.Core.Path.{_≡_}
+use Prim.Native.Nat.{ℕ, _+_, _/_, _%_, _≤_, min}
 use lib.Dec.{eqb, leb}
 use lib.IntN.{ℤ, pos, negℤ}
 use lib.ListN.{getD}
@@ -58,17 +59,29 @@ values-fault (section.Envelope start d) = decay-fault d
 abbrev pub in-range : SectionChoice → Result SectionChoice RecordFault
 in-range s = none-at-fault (values-fault s) (Ok s)
 
+-- a section with no second parameter has 0 in its place
+abbrev pub without-second : SectionChoice → ℕ → Result SectionChoice RecordFault
+without-second s second = and-then (in-range s) (λ t. expect (eqb second 0) (fault.Value Second) (Ok t))
+
 -- the words at bytes 20, 24 and 28: start state, lower stop or c or d, upper stop or 0
 abbrev pub section-of : SectionKind → ℕ → ℕ → ℕ → Result SectionChoice RecordFault
 section-of kind.Stroke start first second = in-range (section.Stroke (toZ w32 start) (toZ w32 first) (toZ w32 second))
-section-of kind.Roll start first second =
-    and-then (in-range (section.Roll start first)) (λ s. expect (eqb second 0) (fault.Value Second) (Ok s))
-section-of kind.Envelope start first second =
-    and-then (in-range (section.Envelope (toZ w32 start) first)) (λ s. expect (eqb second 0) (fault.Value Second) (Ok s))
+section-of kind.Roll start first second = without-second (section.Roll start first) second
+section-of kind.Envelope start first second = without-second (section.Envelope (toZ w32 start) first) second
 
--- how many blocks n items take, per items a block
+-- what holds of every header that the reader answers
+pub record In-range (h : Header) : Type 0 where
+  pub exponent-from : 2 ≤ h .exponent
+  pub exponent-to : h .exponent ≤ 6
+  pub workers-from : 1 ≤ h .workers
+  pub workers-to : h .workers ≤ 8
+  pub samples-to : h .samples ≤ 65536
+  pub turns-to : h .turns ≤ 65536
+  pub values-in : values-fault (h .section) ≡ None
+
+-- how many blocks n items take, per items a block: the quotient, and one more for a remainder
 abbrev pub blocks-for : ℕ → ℕ → ℕ
-blocks-for n per = (n + (per - 1)) / per
+blocks-for n per = n / per + min 1 (n % per)
 
 -- the header, 125 samples a block and 500 turns a block
 abbrev pub needed : ℕ → ℕ → ℕ

@@ -10,7 +10,7 @@ pub(crate) fn le16(bytes: &[u8], i: usize) -> u32
     ensures value { λ r. ⌜ r ≡ le16-at (now (bytes .entry)) i ⌝ }
     ensures bound { λ r. ⌜ r < 65536 ⌝ }
 {
-    bytes[i] as u32 + 256 * bytes[i + 1] as u32
+    u16::from_le_bytes([bytes[i], bytes[i + 1]]) as u32
 }
 
 // The 32-bit number at `i`.
@@ -18,10 +18,7 @@ pub(crate) fn le32(bytes: &[u8], i: usize) -> u32
     requires { ⌜ i + 4 ≤ length (now bytes) ⌝ }
     ensures { λ r. ⌜ r ≡ le32-at (now (bytes .entry)) i ⌝ }
 {
-    bytes[i] as u32
-        + 256 * bytes[i + 1] as u32
-        + 65_536 * bytes[i + 2] as u32
-        + 16_777_216 * bytes[i + 3] as u32
+    u32::from_le_bytes([bytes[i], bytes[i + 1], bytes[i + 2], bytes[i + 3]])
 }
 
 // The byte at `i`, or 0 past the end.
@@ -36,11 +33,10 @@ pub(crate) fn word_at(bytes: &[u8], i: usize) -> u32
     requires { ⌜ i < 2 ^ 63 ⌝ }
     ensures { λ r. ⌜ r ≡ le32-at (now (bytes .entry)) i ⌝ }
 {
-    if i + 4 <= bytes.len() {
-        return le32(bytes, i);
-    }
-    byte_at(bytes, i) as u32
-        + 256 * byte_at(bytes, i + 1) as u32
-        + 65_536 * byte_at(bytes, i + 2) as u32
-        + 16_777_216 * byte_at(bytes, i + 3) as u32
+    u32::from_le_bytes([
+        byte_at(bytes, i),
+        byte_at(bytes, i + 1),
+        byte_at(bytes, i + 2),
+        byte_at(bytes, i + 3),
+    ])
 }

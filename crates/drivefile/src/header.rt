@@ -1,11 +1,11 @@
 // The header: block 0 of the file, and its values as types.
 ghost use mathlib.Core.Path.{_≡_};
-ghost use Prim.Native.Nat.{_^_, _<_};
+ghost use Prim.Native.Nat.{_+_, _<_, _≤_};
 ghost use lib.ListN.{length};
 ghost use Rattle.std.specs.Vec.{made};
 ghost use Rattle.std.specs.declared.option.Option.the-variants.{None};
 ghost use Rattle.std.specs.declared.result.Result.the-variants.{Ok};
-ghost use Rattle.drivefile.specs.Header.{blocks-for, header-of, header-values, in-range, kind-of, network-of, none-at-fault, section-of, stroke-fault, values-fault};
+ghost use Rattle.drivefile.specs.Header.{In-range, blocks-for, header-of, header-values, in-range, kind-of, network-of, none-at-fault, section-of, stroke-fault, values-fault, without-second};
 use crate::block::Due;
 use crate::block::test_block;
 use crate::bytes::le32;
@@ -19,12 +19,12 @@ use sections::stroke::REACH;
 use sections::stroke::Stops;
 
 // The most samples, and the most turns, of a record.
-const MOST: u32 = 65_536;
+pub const MOST_ITEMS: u32 = 65_536;
 
 // Samples and turns that a block holds.
-pub(crate) const SAMPLES: usize = 125;
+pub(crate) const SAMPLES_PER_BLOCK: usize = 125;
 
-pub(crate) const TURNS: usize = 500;
+pub(crate) const TURNS_PER_BLOCK: usize = 500;
 
 // Which section, with its start state and its parameters. The reader has tested that they are in range.
 #[derive(Clone, Copy)]
@@ -111,6 +111,18 @@ fn in_range(section: SectionChoice) -> Result<SectionChoice, RecordFault>
     Ok(section)
 }
 
+// A section in range that has no second parameter: its place in the header is zero.
+fn without_second(section: SectionChoice, second: u32) -> Result<SectionChoice, RecordFault>
+    ensures value { λ r. ⌜ r ≡ without-second section second ⌝ }
+    ensures values { λ r. ⌜ made r (λ it. values-fault it ≡ None) ⌝ }
+{
+    let section = in_range(section)?;
+    if second != 0 {
+        return Err(RecordFault::Value(Value::Second));
+    }
+    Ok(section)
+}
+
 // The section of a kind, from the words at bytes 20, 24 and 28.
 fn section_choice(
     kind: SectionKind,
@@ -121,47 +133,44 @@ fn section_choice(
     ensures value { λ r. ⌜ r ≡ section-of kind start first second ⌝ }
     ensures values { λ r. ⌜ made r (λ it. values-fault it ≡ None) ⌝ }
 {
-    let section = match kind {
-        SectionKind::Stroke => {
-            let lower = first.cast_signed();
-            let upper = second.cast_signed();
-            return in_range(SectionChoice::Stroke {
-                start: start.cast_signed(),
-                lower,
-                upper,
-            });
-        }
-        SectionKind::Roll => SectionChoice::Roll {
-            start,
-            coefficient: first,
-        },
-        SectionKind::Envelope => SectionChoice::Envelope {
-            start: start.cast_signed(),
-            decay: first,
-        },
-    };
-    let section = in_range(section)?;
-    if second != 0 {
-        return Err(RecordFault::Value(Value::Second));
+    let signed = start.cast_signed();
+    match kind {
+        SectionKind::Stroke => in_range(SectionChoice::Stroke {
+            start: signed,
+            lower: first.cast_signed(),
+            upper: second.cast_signed(),
+        }),
+        SectionKind::Roll => without_second(
+            SectionChoice::Roll {
+                start,
+                coefficient: first,
+            },
+            second,
+        ),
+        SectionKind::Envelope => without_second(
+            SectionChoice::Envelope {
+                start: signed,
+                decay: first,
+            },
+            second,
+        ),
     }
-    Ok(section)
 }
 
 // How many blocks the items take, `per` a block.
 pub(crate) fn blocks_for(items: u32, per: usize) -> usize
-    requires some { ⌜ 0 < per ⌝ }
-    requires fits { ⌜ per < 2 ^ 32 ⌝ }
+    requires { ⌜ 0 < per ⌝ }
     ensures value { λ r. ⌜ r ≡ blocks-for items per ⌝ }
-    ensures bound { λ r. ⌜ r < 2 ^ 33 ⌝ }
+    ensures bound { λ r. ⌜ r ≤ items + 1 ⌝ }
 {
-    (items as usize + (per - 1)) / per
+    (items as usize).div_ceil(per)
 }
 
 // The header's values, in the order of their tests.
 fn header_values(block: &[u8], blocks: usize) -> Result<Header, RecordFault>
     requires { ⌜ length (now block) ≡ 512 ⌝ }
     ensures value { λ r. ⌜ r ≡ header-values blocks (now (block .entry)) ⌝ }
-    ensures values { λ r. ⌜ made r (λ it. values-fault (it .section) ≡ None) ⌝ }
+    ensures range { λ r. ⌜ made r In-range ⌝ }
 {
     let kind = section_kind(block[8])?;
     let exponent = block[9];
@@ -174,15 +183,15 @@ fn header_values(block: &[u8], blocks: usize) -> Result<Header, RecordFault>
         return Err(RecordFault::Choice(Choice::Workers));
     }
     let samples = le32(block, 12);
-    if samples > MOST {
+    if samples > MOST_ITEMS {
         return Err(RecordFault::Counter(Counter::Samples));
     }
     let turns = le32(block, 16);
-    if turns > MOST {
+    if turns > MOST_ITEMS {
         return Err(RecordFault::Counter(Counter::Turns));
     }
     let section = section_choice(kind, le32(block, 20), le32(block, 24), le32(block, 28))?;
-    if blocks != 1 + blocks_for(samples, SAMPLES) + blocks_for(turns, TURNS) {
+    if blocks != 1 + blocks_for(samples, SAMPLES_PER_BLOCK) + blocks_for(turns, TURNS_PER_BLOCK) {
         return Err(RecordFault::Blocks);
     }
     Ok(Header {
@@ -199,7 +208,7 @@ fn header_values(block: &[u8], blocks: usize) -> Result<Header, RecordFault>
 pub(crate) fn read_header(block: &[u8], blocks: usize) -> Result<Header, RecordFault>
     requires { ⌜ length (now block) ≡ 512 ⌝ }
     ensures value { λ r. ⌜ r ≡ header-of blocks (now (block .entry)) ⌝ }
-    ensures values { λ r. ⌜ made r (λ it. values-fault (it .section) ≡ None) ⌝ }
+    ensures range { λ r. ⌜ made r In-range ⌝ }
 {
     test_block(
         block,

@@ -7,6 +7,8 @@ mod reader;
 mod record;
 
 pub use header::Header;
+pub use header::MOST_ITEMS;
 pub use header::NetworkChoice;
 pub use header::SectionChoice;
+pub use reader::MOST_BYTES;
 pub use record::Record;

@@ -3,9 +3,8 @@ ghost use mathlib.Core.Path.{_≡_};
 ghost use Prim.Native.Nat.{_+_, _-_, _*_, _≤_};
 ghost use lib.ListN.{length};
 ghost use Rattle.std.specs.Vec.{made};
-ghost use Rattle.std.specs.declared.option.Option.the-variants.{None};
 ghost use Rattle.drivefile.specs.Bytes.{block-at};
-ghost use Rattle.drivefile.specs.Header.{values-fault};
+ghost use Rattle.drivefile.specs.Header.{In-range};
 ghost use Rattle.drivefile.specs.Reading.{later-block, later-test, legal-length, reading, sample-block, turn-block};
 ghost use Rattle.drivefile.specs.Tests.{each-of};
 use crate::block::BLOCK;
@@ -13,16 +12,19 @@ use crate::block::Due;
 use crate::block::first_from;
 use crate::block::test_block;
 use crate::header::Header;
-use crate::header::SAMPLES;
-use crate::header::TURNS;
+use crate::header::SAMPLES_PER_BLOCK;
+use crate::header::TURNS_PER_BLOCK;
 use crate::header::blocks_for;
 use crate::header::read_header;
 use faults::BlockFault;
 use faults::RecordFault;
 use faults::RecordFromBlock;
 
-// The header, and the samples' and turns' blocks of the longest record.
+// The blocks of the longest record: the header, 525 of samples and 132 of turns.
 const MOST_BLOCKS: usize = 658;
+
+// The bytes of the longest file.
+pub const MOST_BYTES: usize = 336_896;
 
 // A whole number of blocks, from 1 to the most that a record takes.
 fn legal_length(bytes: usize) -> bool
@@ -49,7 +51,9 @@ fn test_samples(block: &[u8], number: usize, header: Header) -> Result<(), Recor
     requires high { ⌜ number ≤ 658 ⌝ }
     ensures { λ r. ⌜ r ≡ sample-block header number (now (block .entry)) ⌝ }
 {
-    let count = SAMPLES.min((header.samples as usize).saturating_sub(SAMPLES * (number - 1)));
+    let count = SAMPLES_PER_BLOCK.min((header.samples as usize).saturating_sub(
+        SAMPLES_PER_BLOCK * (number - 1),
+    ));
     test_block(
         block,
         number,
@@ -69,8 +73,10 @@ fn test_turns(block: &[u8], number: usize, header: Header) -> Result<(), RecordF
     requires high { ⌜ number ≤ 658 ⌝ }
     ensures { λ r. ⌜ r ≡ turn-block header number (now (block .entry)) ⌝ }
 {
-    let before = number.saturating_sub(1 + blocks_for(header.samples, SAMPLES));
-    let count = TURNS.min((header.turns as usize).saturating_sub(TURNS * before));
+    let before = number.saturating_sub(1 + blocks_for(header.samples, SAMPLES_PER_BLOCK));
+    let count = TURNS_PER_BLOCK.min((header.turns as usize).saturating_sub(
+        TURNS_PER_BLOCK * before,
+    ));
     test_block(
         block,
         number,
@@ -96,7 +102,7 @@ fn test_later(block: &[u8], number: usize, header: Header) -> Result<(), RecordF
     requires high { ⌜ number ≤ 658 ⌝ }
     ensures { λ r. ⌜ r ≡ later-block header number (now (block .entry)) ⌝ }
 {
-    if number <= blocks_for(header.samples, SAMPLES) {
+    if number <= blocks_for(header.samples, SAMPLES_PER_BLOCK) {
         test_samples(block, number, header)
     } else {
         test_turns(block, number, header)
@@ -119,7 +125,7 @@ fn test_rest(file: &[u8], blocks: usize, header: Header) -> Result<(), RecordFau
 // The header of a file that passes every test, or the first fault.
 pub(crate) fn test_file(file: &[u8]) -> Result<Header, RecordFault>
     ensures value { λ r. ⌜ r ≡ reading (now (file .entry)) ⌝ }
-    ensures values { λ r. ⌜ made r (λ it. values-fault (it .section) ≡ None) ⌝ }
+    ensures range { λ r. ⌜ made r In-range ⌝ }
 {
     if !legal_length(file.len()) {
         return Err(RecordFault::Block(BlockFault::Length));

@@ -63,7 +63,7 @@ impl Draft {
     fn frame(&mut self, kind: usize, items: usize, per: usize, before: usize) -> usize {
         let mut left = items;
         let mut number = before;
-        for _ in 0..items {
+        for _ in 0..items.div_ceil(per.max(1)) {
             if left > 0 {
                 let start = number.saturating_mul(512);
                 self.put(start, 2, kind);
@@ -77,7 +77,7 @@ impl Draft {
         number
     }
 
-    // A legal file of so many samples and turns, all zero: stroke integrator, tile width 4, serial plan, 2 workers,
+    // A legal file of so many samples and turns, all zero: stroke integrator, tile width 4, serial network, 2 workers,
     // start 0, stops -10 and 10.
     pub(crate) fn drive(&mut self, samples: usize, turns: usize) -> Result<(), AllocError> {
         let blocks = samples

@@ -3,7 +3,9 @@
 mod draft;
 
 use crate::draft::Draft;
+use drivefile::MOST_ITEMS;
 use drivefile::Record;
+use evaluation::print_evaluation;
 use faults::RefusalDisplay;
 use std::error::AnyError;
 use std::io::BufRead;
@@ -15,9 +17,10 @@ fn main(rt: LibcRuntime) -> Result<(), AnyError> {
 
 fn run(rt: &LibcRuntime) -> Result<(), AnyError> {
     let mut draft = Draft::new(rt.alloc());
+    let mut words = vec![in rt.alloc(); 0; MOST_ITEMS as usize]?;
     for line in BufReader::new(rt.stdin()).lines(rt.alloc()) {
         let line = line?;
-        obey(rt, &mut draft, line.as_str())?;
+        obey(rt, &mut draft, words.as_mut_slice(), line.as_str())?;
     }
     Ok(())
 }
@@ -34,25 +37,31 @@ fn number(word: Option<&str>) -> usize {
 }
 
 // One command.
-fn obey(rt: &LibcRuntime, draft: &mut Draft, line: &str) -> Result<(), AnyError> {
-    let mut words = line.split_whitespace();
-    let Some(command) = words.next() else {
+fn obey(
+    rt: &LibcRuntime,
+    draft: &mut Draft,
+    words: &mut [u32],
+    line: &str,
+) -> Result<(), AnyError> {
+    let mut parts = line.split_whitespace();
+    let Some(command) = parts.next() else {
         return Ok(());
     };
     match command {
-        "length" => draft.resize(number(words.next()))?,
+        "length" => draft.resize(number(parts.next()))?,
         "drive" => {
-            let samples = number(words.next());
-            let turns = number(words.next());
+            let samples = number(parts.next());
+            let turns = number(parts.next());
             draft.drive(samples, turns)?;
         }
-        "byte" => draft.put(number(words.next()), 1, number(words.next())),
-        "half" => draft.put(number(words.next()), 2, number(words.next())),
-        "word" => draft.put(number(words.next()), 4, number(words.next())),
-        "seal" => draft.seal(number(words.next())),
+        "byte" => draft.put(number(parts.next()), 1, number(parts.next())),
+        "half" => draft.put(number(parts.next()), 2, number(parts.next())),
+        "word" => draft.put(number(parts.next()), 4, number(parts.next())),
+        "seal" => draft.seal(number(parts.next())),
         "read" => read(rt, draft, line)?,
-        "samples" => samples(rt, draft, line, number(words.next()))?,
-        "turn" => turn(rt, draft, line, number(words.next()))?,
+        "evaluate" => print_evaluation(&mut rt.stdout(), draft.bytes(), words)?,
+        "samples" => samples(rt, draft, line, number(parts.next()))?,
+        "turn" => turn(rt, draft, line, number(parts.next()))?,
         _ => println!(rt, "unknown command: {line}")?,
     }
     Ok(())

@@ -66,7 +66,7 @@ word-in d x below = record {
 rest-moved : (s : ℤ) → Level s → moved rest s ≡ s
 rest-moved s s-in = omega (arith, ints, clamps)
 
--- the rule names the word first, the map the state
+-- the recursion names the word first, the map the state
 word-moved : (d : Decay) (x : ℕ) (s : ℤ) → moved (word d x) (read-state s) ≡ next d s x
 word-moved d x s = omega (arith, ints, clamps)
 
@@ -74,6 +74,8 @@ word-moved d x s = omega (arith, ints, clamps)
 pub sound : Sound envelope Level Falling read-map moved joined (ofZ w32)
 sound = record {
   states = states;
+  tested = true-within _ _;
+  zero-in = record { from = omega (arith, ints); to = omega (arith, ints) };
   maps = maps;
   effect-is = λ f s. refl;
   join-is = λ f g. refl;

@@ -70,6 +70,8 @@ word-mod n = mod-lt n (omega arith)
 pub sound : Sound roll Word Words read-map moved joined (λ s. s)
 sound = record {
   states = states;
+  tested = λ s. lt-ltb s (2 ^ 32);
+  zero-in = omega arith;
   maps = maps;
   effect-is = λ f s. refl;
   join-is = λ f g. refl;

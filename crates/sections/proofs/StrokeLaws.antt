@@ -139,6 +139,8 @@ rest-moved s s-in = omega (arith, ints, clamps)
 pub sound : Sound stroke Position Ordered read-map moved joined (ofZ w32)
 sound = record {
   states = states;
+  tested = true-within _ _;
+  zero-in = record { from = omega (arith, ints); to = omega (arith, ints) };
   maps = maps;
   effect-is = λ f s. refl;
   join-is = λ f g. refl;

@@ -24,8 +24,11 @@ abbrev pub read-state : ℤ → ℤ
 read-state s = cond (signed-32 s) s (pos 0)
 
 -- the next state for the signed word x is max(x, s - d)
+abbrev pub step : ℕ → ℤ → ℕ → ℤ
+step d s x = maxZ (toZ w32 x) (read-state s -ℤ pos d)
+
 abbrev pub next : Decay → ℤ → ℕ → ℤ
-next d s x = maxZ (toZ w32 x) (read-state s -ℤ pos (d .value))
+next p = step (p .value)
 
 abbrev pub envelope-map : ℤ → ℤ → EnvelopeMap
 envelope-map p q = record { fall = p; floor = q }
@@ -61,7 +64,7 @@ abbrev pub shown : ℤ → ℕ
 shown s = ofZ w32 (read-state s)
 
 abbrev pub envelope : Meaning Decay ℤ EnvelopeMap
-envelope = record { next = next; rest = rest; word = word; join = join; effect = effect; shown = shown; signed = true; read = read-state }
+envelope = record { next = next; rest = rest; word = word; join = join; effect = effect; shown = shown; signed = true; inside = signed-32; zero = pos 0 }
 
 -- the decay is from 0 to 2 ^ 31 - 1
 abbrev pub decay-fault : ℕ → Option Value

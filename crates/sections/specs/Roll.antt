@@ -1,18 +1,25 @@
 -- The roll section: a first-order recursion modulo 2 ^ 32.
-use mathlib.Core.Bool.{false, cond, _&&_}
+use mathlib.Core.Bool.{Bool, false, cond, _&&_}
 use Prim.Native.Nat.{ℕ, _+_, _*_, _%_, _^_}
 use lib.Dec.{ltb}
 use Rattle.sections.specs.Meaning.{Meaning}
 use Rattle.sections.specs.declared.roll.Coefficient.{Coefficient}
 use Rattle.sections.specs.declared.roll.RollMap.{RollMap}
 
--- a state is a word; a kept number out of range is read as the state 0
+-- a state is a word
+abbrev pub is-word : ℕ → Bool
+is-word s = ltb s (2 ^ 32)
+
+-- a kept number out of range is read as the state 0
 abbrev pub read-state : ℕ → ℕ
-read-state s = cond (ltb s (2 ^ 32)) s 0
+read-state s = cond (is-word s) s 0
 
 -- the next state is (c × s + x) modulo 2 ^ 32
+abbrev pub step : ℕ → ℕ → ℕ → ℕ
+step c s x = (c * read-state s + x) % 2 ^ 32
+
 abbrev pub next : Coefficient → ℕ → ℕ → ℕ
-next c s x = (c .value * read-state s + x) % 2 ^ 32
+next p = step (p .value)
 
 abbrev pub roll-map : ℕ → ℕ → RollMap
 roll-map m b = record { factor = m; add = b }
@@ -23,7 +30,7 @@ rest = roll-map 1 0
 
 -- both numbers of a map are words; kept numbers that are not are read as rest
 abbrev pub read-map : RollMap → RollMap
-read-map f = cond (ltb (f .factor) (2 ^ 32) && ltb (f .add) (2 ^ 32)) f rest
+read-map f = cond (is-word (f .factor) && is-word (f .add)) f rest
 
 -- the word's map is (c, x)
 abbrev pub word : Coefficient → ℕ → RollMap
@@ -45,4 +52,4 @@ join f g = joined (read-map f) (read-map g)
 
 -- a state shows itself
 abbrev pub roll : Meaning Coefficient ℕ RollMap
-roll = record { next = next; rest = rest; word = word; join = join; effect = effect; shown = read-state; signed = false; read = read-state }
+roll = record { next = next; rest = rest; word = word; join = join; effect = effect; shown = read-state; signed = false; inside = is-word; zero = 0 }

@@ -19,13 +19,19 @@ use Rattle.sections.specs.declared.stroke.StrokeMap.{StrokeMap}
 abbrev pub reach : ℕ
 reach = 2 ^ 30
 
+abbrev pub position : ℤ → Bool
+position s = within (negℤ (pos reach)) (pos reach) s
+
 -- a kept number out of range is read as the state 0
 abbrev pub read-state : ℤ → ℤ
-read-state s = cond (within (negℤ (pos reach)) (pos reach) s) s (pos 0)
+read-state s = cond (position s) s (pos 0)
 
 -- the next state for the signed word x is min(upper, max(lower, s + x))
+abbrev pub step : ℤ → ℤ → ℤ → ℕ → ℤ
+step lower upper s x = held lower upper (read-state s +ℤ toZ w32 x)
+
 abbrev pub next : Stops → ℤ → ℕ → ℤ
-next p s x = held (p .lower) (p .upper) (read-state s +ℤ toZ w32 x)
+next p = step (p .lower) (p .upper)
 
 abbrev pub stroke-map : ℤ → ℤ → ℤ → StrokeMap
 stroke-map a l h = record { add = a; low = l; high = h }
@@ -69,7 +75,7 @@ abbrev pub shown : ℤ → ℕ
 shown s = ofZ w32 (read-state s)
 
 abbrev pub stroke : Meaning Stops ℤ StrokeMap
-stroke = record { next = next; rest = rest; word = word; join = join; effect = effect; shown = shown; signed = true; read = read-state }
+stroke = record { next = next; rest = rest; word = word; join = join; effect = effect; shown = shown; signed = true; inside = position; zero = pos 0 }
 
 -- the first stop out of its range: the lower from -R to R, the upper from the lower to R
 abbrev pub stops-fault : ℤ → ℤ → Option Value

@@ -1,6 +1,6 @@
 // What a section is: states, maps and parameters of its own, the operations on them, and what they mean.
 ghost use mathlib.Core.Path.{_≡_};
-ghost use Rattle.sections.specs.Meaning.{Laws, Meaning, Reading, number};
+ghost use Rattle.sections.specs.Meaning.{Laws, Meaning, Reading, number-of};
 
 // A recursive section. States and maps are kept as plain numbers, and every number is legal: one out of range is read
 // as the state 0, or as the rest map. No operation refuses anything.
@@ -26,7 +26,7 @@ pub trait Section {
     fn next(params: Self::Params, state: Self::State, word: u32) -> Self::State
         ensures { λ r. ⌜ r ≡ meaning .next params state word ⌝ };
 
-    // The map that leaves every state as it is.
+    // The map that leaves every state as it is read.
     fn rest() -> Self::Map
         ensures { λ r. ⌜ r ≡ meaning .rest ⌝ };
 
@@ -46,16 +46,16 @@ pub trait Section {
     fn shown(state: Self::State) -> u32
         ensures { λ r. ⌜ r ≡ meaning .shown state ⌝ };
 
-    // The number that a word stands for in print: signed or not, as the section reads its words.
-    fn number(word: u32) -> i64
-        ensures { λ r. ⌜ r ≡ number (meaning .signed) word ⌝ };
+    // Whether words are read signed, as SIGNED says.
+    fn is_signed() -> bool
+        ensures { λ r. ⌜ r ≡ meaning .signed ⌝ };
 }
 
-// A word as a number: two's complement where words are read signed.
-pub fn number_of(signed: bool, word: u32) -> i64
-    ensures { λ r. ⌜ r ≡ number signed word ⌝ }
+// The number that a word stands for, read as the section reads its words: two's complement where they are signed.
+pub fn number<S: Section>(word: u32) -> i64
+    ensures { λ r. ⌜ r ≡ number-of (S·Section .meaning .signed) word ⌝ }
 {
-    if signed {
+    if S::is_signed() {
         word.cast_signed() as i64
     } else {
         word as i64

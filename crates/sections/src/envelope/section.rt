@@ -5,17 +5,15 @@ ghost use lib.IntN.{pos, negℤ};
 ghost use lib.Signed.{_≤ℤ_};
 ghost use Rattle.sections.specs.Envelope.{decay-fault, envelope, moved, read-map};
 ghost use Rattle.sections.specs.Made.{Made};
-ghost use Rattle.sections.specs.Meaning.{number};
 use crate::envelope::Decay;
 use crate::envelope::Envelope;
 use crate::envelope::EnvelopeMap;
 use crate::section::Section;
-use crate::section::number_of;
 use faults::RecordFault;
 use faults::Value;
 
 // The first decay that is too large, and the deepest fall of a map.
-const DECAYS: u32 = 2_147_483_648;
+const DECAY_LIMIT: u32 = 2_147_483_648;
 
 const DEEPEST: i64 = -4_294_967_296;
 
@@ -24,7 +22,7 @@ impl Decay {
     pub fn new(value: u32) -> Result<Decay, RecordFault>
         ensures { λ r. ⌜ Made (decay-fault value) r (λ d. d .value ≡ value) ⌝ }
     {
-        if value >= DECAYS {
+        if value >= DECAY_LIMIT {
             return Err(RecordFault::Value(Value::First));
         }
         Ok(Decay { value })
@@ -109,7 +107,7 @@ pub impl Section for Envelope as EnvelopeSection {
         state.cast_unsigned()
     }
 
-    fn number(word: u32) -> i64 {
-        number_of(Self::SIGNED, word)
+    fn is_signed() -> bool {
+        Self::SIGNED
     }
 }

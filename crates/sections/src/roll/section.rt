@@ -1,12 +1,10 @@
 // The roll section's calls.
 ghost use mathlib.Core.Path.{_≡_};
-ghost use Rattle.sections.specs.Meaning.{number};
 ghost use Rattle.sections.specs.Roll.{roll};
 use crate::roll::Coefficient;
 use crate::roll::Roll;
 use crate::roll::RollMap;
 use crate::section::Section;
-use crate::section::number_of;
 
 impl Coefficient {
     pub fn new(value: u32) -> Coefficient
@@ -65,7 +63,7 @@ pub impl Section for Roll as RollSection {
         state
     }
 
-    fn number(word: u32) -> i64 {
-        number_of(Self::SIGNED, word)
+    fn is_signed() -> bool {
+        Self::SIGNED
     }
 }

@@ -1,9 +1,7 @@
 // The stroke integrator's calls.
 ghost use mathlib.Core.Path.{_≡_};
-ghost use Rattle.sections.specs.Meaning.{number};
 ghost use Rattle.sections.specs.Stroke.{stroke};
 use crate::section::Section;
-use crate::section::number_of;
 use crate::stroke::Checked;
 use crate::stroke::REACH;
 use crate::stroke::Stops;
@@ -59,7 +57,7 @@ pub impl Section for Stroke as StrokeSection {
         read_state(state).cast_unsigned()
     }
 
-    fn number(word: u32) -> i64 {
-        number_of(Self::SIGNED, word)
+    fn is_signed() -> bool {
+        Self::SIGNED
     }
 }

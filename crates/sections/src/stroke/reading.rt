@@ -6,15 +6,20 @@ use crate::stroke::Checked;
 use crate::stroke::REACH;
 use crate::stroke::StrokeMap;
 
-const TWICE: i64 = 2_147_483_648;
+const TWICE_REACH: i64 = 2_147_483_648;
 
 impl Checked {
     // The map that kept numbers stand for: themselves in range, else rest.
-    pub fn read(map: StrokeMap) -> Checked
+    pub(crate) fn read(map: StrokeMap) -> Checked
         ensures { λ r. ⌜ numbers r ≡ read-map map ⌝ }
     {
         let StrokeMap { add, low, high } = map;
-        if add >= -TWICE && add <= TWICE && low >= -REACH && low <= high && high <= REACH {
+        if add >= -TWICE_REACH
+            && add <= TWICE_REACH
+            && low >= -REACH
+            && low <= high
+            && high <= REACH
+        {
             Checked { add, low, high }
         } else {
             Checked {
@@ -26,7 +31,7 @@ impl Checked {
     }
 
     // The numbers to keep.
-    pub fn kept(self) -> StrokeMap
+    pub(crate) fn kept(self) -> StrokeMap
         ensures { λ r. ⌜ r ≡ numbers self ⌝ }
     {
         StrokeMap {
@@ -37,17 +42,17 @@ impl Checked {
     }
 
     // The position that the map takes the position `state` to.
-    pub fn moved(self, state: i32) -> i32
+    pub(crate) fn moved(self, state: i32) -> i32
         ensures { λ r. ⌜ r ≡ moved (numbers self) state ⌝ }
     {
         position(self.low, self.high, state as i64 + self.add)
     }
 
     // One map with the effect of this one and then `second`.
-    pub fn join(self, second: Checked) -> Checked
+    pub(crate) fn join(self, second: Checked) -> Checked
         ensures { λ r. ⌜ numbers r ≡ joined (numbers self) (numbers second) ⌝ }
     {
-        let add = held(-TWICE, TWICE, self.add + second.add);
+        let add = held(-TWICE_REACH, TWICE_REACH, self.add + second.add);
         let low = second.moved(self.low);
         let high = second.moved(self.high);
         Checked { add, low, high }
@@ -55,7 +60,7 @@ impl Checked {
 }
 
 // The state that a kept number stands for: itself in range, else 0.
-pub fn read_state(state: i32) -> i32
+pub(crate) fn read_state(state: i32) -> i32
     ensures { λ r. ⌜ r ≡ read-state state ⌝ }
 {
     if state >= -REACH && state <= REACH {
@@ -66,7 +71,7 @@ pub fn read_state(state: i32) -> i32
 }
 
 // The position that `value` is held to between low and high.
-pub fn position(low: i32, high: i32, value: i64) -> i32
+pub(crate) fn position(low: i32, high: i32, value: i64) -> i32
     ensures { λ r. ⌜ r ≡ held low high value ⌝ }
 {
     held(low as i64, high as i64, value) as i32
