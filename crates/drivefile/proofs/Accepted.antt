@@ -12,8 +12,8 @@ use Rattle.sections.specs.Range.{within}
 use Rattle.sections.specs.Stroke.{reach}
 use Rattle.drivefile.specs.Bytes.{block_at, bytes4, le32}
 use Rattle.drivefile.specs.Header.{header_due, needed}
-use Rattle.drivefile.specs.Order.{Passed, Passes, Test, block_tests, header_tests, later_tests, sample_block_tests, test, tests, turn_block_tests, value_tests}
-use Rattle.drivefile.specs.Reading.{legal_length, turns_due, turns_in}
+use Rattle.drivefile.specs.Order.{Passed, Passes, Test, block_tests, header_tests, later_tests, sample_block_tests, test, tests, turn_block_tests, turns_in_block, value_tests}
+use Rattle.drivefile.specs.Reading.{legal_length, turns_due}
 use Rattle.drivefile.specs.Record.{DriveRecord, RecordRange, values_in}
 use Rattle.drivefile.specs.File.{file_of, header_payload, network_number, part, section_number, value_words}
 use Rattle.drivefile.specs.declared.header.NetworkChoice.{NetworkChoice}
@@ -129,7 +129,7 @@ module _ (r : DriveRecord) (p : RecordRange r) where
       (items_passed 4 (2 ^ 32) le32 bytes4 word 2 125 1 (omega arith) r.samples b (omega arith) small (omega arith)))
 
   -- the turns of a block lie from byte 8 on
-  turn_read : (b i : ℕ) → i < turns_in n m b → get_or (turn_block r b) (8 + i) 0 < r.workers
+  turn_read : (b i : ℕ) → i < turns_in_block n m b → get_or (turn_block r b) (8 + i) 0 < r.workers
   turn_read b i h =
       let here = part 500 r.turns (b - (1 + sample_blocks r)) in
       let row = flat_map (λ w. w ∷ []) here in
@@ -145,13 +145,13 @@ module _ (r : DriveRecord) (p : RecordRange r) where
 
   turn_passed : (b : ℕ) → 1 + sample_blocks r ≤ b → b < 65536 → Passed (later_tests n m r.workers b (block_of r b))
   turn_passed b l small =
-      let one : 1 * turns_in n m b ≡ turns_in n m b = omega arith in
+      let one : 1 * turns_in_block n m b ≡ turns_in_block n m b = omega arith in
       let framed = items_passed 1 256 (λ bs i. get_or bs i 0) (λ w. w ∷ []) byte 3 500 (1 + sample_blocks r) (omega arith) r.turns b (omega arith) small (omega arith) in
       subst Passed (sym (cond-false (leb b (sample_blocks r)) _ _ (lt-leb b (sample_blocks r) (omega arith))))
       (subst (λ bs. Passed (turn_block_tests n m r.workers b bs)) (sym (block_turn r b l))
-      (All-append Passes (block_tests b (turns_due (turns_in n m b)) (turn_block r b)) _
-      (subst (λ u. Passed (block_tests b (record { kind = 3; count = turns_in n m b; used = u }) (turn_block r b))) one framed)
-      (all_counting Passes (λ i. test (ltb (get_or (turn_block r b) i 0) r.workers) (fault.Worker b i)) 8 (turns_in n m b)
+      (All-append Passes (block_tests b (turns_due (turns_in_block n m b)) (turn_block r b)) _
+      (subst (λ u. Passed (block_tests b (record { kind = 3; count = turns_in_block n m b; used = u }) (turn_block r b))) one framed)
+      (all_counting Passes (λ i. test (ltb (get_or (turn_block r b) i 0) r.workers) (fault.Worker b i)) 8 (turns_in_block n m b)
       (λ i u v. let e : 8 + (i - 8) ≡ i = omega arith in lt-ltb _ _ (subst (λ k. get_or (turn_block r b) k 0 < r.workers) e (turn_read b (i - 8) (omega arith)))))))
 
   later_passed : (b : ℕ) → 1 ≤ b → b < blocks r → Passed (later_tests n m r.workers b (block_of r b))

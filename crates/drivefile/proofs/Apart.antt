@@ -1,6 +1,6 @@
 -- Records in range with the same file are the same record.
-use Rattle.std.proofs.Common.{◌≡◌, ℕ, ◌+◌, ◌-◌, ◌^◌, ◌<◌, List, [], ◌∷◌, length, get_or, take, drop, sym, ap, ◌∙◌, arith}
-use Rattle.std.specs.List.{AllByRecursion as All}
+use Rattle.std.proofs.Common.{◌≡◌, ℕ, ◌+◌, ◌^◌, ◌<◌, List, [], ◌∷◌, length, get_or, take, drop, sym, ap, ◌∙◌, arith}
+use Rattle.std.specs.List.{AllByRecursion}
 use Rattle.std.proofs.ByRecursion.{All-weaker}
 use Rattle.drivefile.specs.Bytes.{block_at, bytes4, le32}
 use Rattle.drivefile.specs.Header.{blocks_for}
@@ -31,7 +31,7 @@ module _ (r s : DriveRecord) (p : RecordRange r) (q : RecordRange s) (same : fil
   abbrev numbers : DriveRecord → List ℕ
   numbers t = length t.samples ∷ length t.turns ∷ value_words t.section
 
-  fit : (t : DriveRecord) → RecordRange t → All (λ x. x < 2 ^ 32) (numbers t)
+  fit : (t : DriveRecord) → RecordRange t → AllByRecursion (λ x. x < 2 ^ 32) (numbers t)
   fit t h = (let l = h.samples_to in omega arith, (let l = h.turns_to in omega arith, value_fit t.section h.section_values))
 
   numbers_same : numbers r ≡ numbers s
@@ -56,7 +56,7 @@ module _ (r s : DriveRecord) (p : RecordRange r) (q : RecordRange s) (same : fil
   turns_same =
       let n : sample_blocks r ≡ sample_blocks s = ap (λ k. blocks_for k 125) samples_count in
       let t : turn_blocks r ≡ turn_blocks s = ap (λ k. blocks_for k 500) turns_count in
-      let bytes : (d : DriveRecord) → RecordRange d → All (λ x. x < 256) d.turns = λ d h. All-weaker _ (λ x. x < 256) (λ x l. let w = h.workers_to in omega arith) d.turns h.turn_workers in
+      let bytes : (d : DriveRecord) → RecordRange d → AllByRecursion (λ x. x < 256) d.turns = λ d h. All-weaker _ (λ x. x < 256) (λ x l. let w = h.workers_to in omega arith) d.turns h.turn_workers in
       all_same 1 256 (λ bs i. get_or bs i 0) (λ w. w ∷ []) byte 3 500 (1 + sample_blocks r) (omega arith) r.turns s.turns (omega arith) (bytes r p) (bytes s q) turns_count
       (λ b l m. sym (block_turn r b l) ∙ block_same b (omega arith) (omega (arith, n, t)) ∙ block_turn s b (omega (arith, n)) ∙ (λ i. items_block 3 500 (λ w. w ∷ []) (1 + sym n i) s.turns b))
 

@@ -3,15 +3,15 @@ use Rattle.std.proofs.Common.{◌≡◌, ℕ, cond, ltb, List, get_or, Some, Non
 use Rattle.std.proofs.lemmas.List.FromFn.{get_or-map-range_with_len}
 use Rattle.std.proofs.lemmas.Bool.{cases_Bool, cond-false, cond-true, ltb-true}
 use Rattle.drivefile.specs.Items.{put_front, room_for, samples_of, turn_at, turn_place, turns_of}
-use Rattle.drivefile.specs.Record.{copied, copying, recorded, turn_of}
+use Rattle.drivefile.specs.Record.{copied_record, copying_record, recorded, turn_of}
 use Rattle.drivefile.specs.declared.header.Header.{Header}
 use Rattle.drivefile.proofs.Exact.{samples_length, turns_length}
 
 module _ (file : List ℕ) (h : Header) where
-  pub same_copying : (out : List ℕ) → room_for h.samples out ≡ copying (recorded file h) out
+  pub same_copying : (out : List ℕ) → room_for h.samples out ≡ copying_record (recorded file h) out
   same_copying out = ap (λ n. room_for n out) (sym (samples_length file h))
 
-  pub same_copied : (out : List ℕ) → put_front h.samples (samples_of file h.samples) out ≡ copied (recorded file h) out
+  pub same_copied : (out : List ℕ) → put_front h.samples (samples_of file h.samples) out ≡ copied_record (recorded file h) out
   same_copied out = ap (λ n. put_front n (samples_of file h.samples) out) (sym (samples_length file h))
 
   -- a turn that is counted is that of the list

@@ -1,6 +1,6 @@
 -- Numbers as bytes and back, over the width: words of four bytes, turns of one.
-use Rattle.std.proofs.Common.{◌≡◌, ℕ, zero, suc, ◌+◌, ◌-◌, ◌*◌, ◌/◌, ◌%◌, ◌^◌, ◌<◌, ◌≤◌, List, [], ◌∷◌, ◌++◌, map, length, get_or, drop, sym, refl, ap, ◌∙◌, arith}
-use Rattle.std.specs.List.{range_with_len, flat_map, AllByRecursion as All}
+use Rattle.std.proofs.Common.{◌≡◌, ℕ, zero, suc, ◌+◌, ◌*◌, ◌/◌, ◌%◌, ◌^◌, ◌<◌, ◌≤◌, List, [], ◌∷◌, ◌++◌, map, length, get_or, drop, sym, refl, ap, ◌∙◌, arith}
+use Rattle.std.specs.List.{range_with_len, flat_map, AllByRecursion}
 use Rattle.std.proofs.lemmas.Nat.{div-add-mod', div-mul-add, mod_below, mod-mul-add}
 use Rattle.std.proofs.ByRecursion.{All-append}
 use Rattle.std.proofs.lemmas.List.{append_assoc, drop_at, drop_more, length-append}
@@ -61,7 +61,7 @@ pub record Coding (q most : ℕ) (read : List ℕ → ℕ → ℕ) (write : ℕ 
   pub taken : (bs : List ℕ) (i : ℕ) → Bytes bs → i + q ≤ length bs → drop i bs ≡ write (read bs i) ++ drop (i + q) bs
   pub back : (x : ℕ) (rest : List ℕ) → x < most → read (write x ++ rest) 0 ≡ x
   pub below : (bs : List ℕ) (i : ℕ) → Bytes bs → read bs i < most
-  pub fit : (x : ℕ) → x < most → All (λ b. b < 256) (write x)
+  pub fit : (x : ℕ) → x < most → AllByRecursion (λ b. b < 256) (write x)
 
 pub byte : Coding 1 256 (λ bs i. get_or bs i 0) (λ w. w ∷ [])
 byte = record {
@@ -121,7 +121,7 @@ module _ (q most : ℕ) (read : List ℕ → ℕ → ℕ) (write : ℕ → List 
   length_written (x ∷ xs) = length-append (write x) (flat_map write xs) ∙ (λ i. c.long x i + length_written xs i) ∙ omega arith
 
   -- numbers in a row are told apart by their bytes
-  pub written_same : (xs ys : List ℕ) → All (λ x. x < most) xs → All (λ x. x < most) ys → length xs ≡ length ys → flat_map write xs ≡ flat_map write ys → xs ≡ ys
+  pub written_same : (xs ys : List ℕ) → AllByRecursion (λ x. x < most) xs → AllByRecursion (λ x. x < most) ys → length xs ≡ length ys → flat_map write xs ≡ flat_map write ys → xs ≡ ys
   written_same [] [] p r l e = refl
   written_same [] (y ∷ ys) p r l e = absurd (omega arith)
   written_same (x ∷ xs) [] p r l e = absurd (omega arith)
@@ -132,6 +132,6 @@ module _ (q most : ℕ) (read : List ℕ → ℕ → ℕ) (write : ℕ → List 
       λ i. first i ∷ written_same xs ys p.1 r.1 (omega arith) rest i
 
   -- numbers in a row are bytes
-  pub written_fit : (xs : List ℕ) → All (λ x. x < most) xs → All (λ b. b < 256) (flat_map write xs)
+  pub written_fit : (xs : List ℕ) → AllByRecursion (λ x. x < most) xs → AllByRecursion (λ b. b < 256) (flat_map write xs)
   written_fit [] p = tt
   written_fit (x ∷ xs) p = All-append (λ b. b < 256) (write x) (flat_map write xs) (c.fit x p.0) (written_fit xs p.1)

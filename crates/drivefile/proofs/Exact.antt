@@ -1,6 +1,6 @@
 -- A file that is accepted is the file of the record that it gives, and that record is in range.
 use Rattle.std.proofs.Common.{◌≡◌, ℕ, ◌+◌, ◌-◌, ◌*◌, ◌/◌, ◌%◌, ◌^◌, ◌<◌, ◌≤◌, min, true, eqb, ltb, leb, List, [], ◌∷◌, ◌++◌, map, length, get_or, take, drop, Ok, sym, refl, ap, ◌∙◌, subst, ⊎_elim, arith, w32, to_z}
-use mir.ValLaws.{to_z_Fits}
+use mir.ValLaws.{to_z-Fits}
 use Rattle.std.specs.List.{range_with_len, flat_map}
 use Rattle.std.proofs.lemmas.Nat.{div-add-mod', div_below, mod_below}
 use Rattle.std.proofs.lemmas.List.FromFn.{length-map-range_with_len}
@@ -11,8 +11,8 @@ use Rattle.faults.specs.declared.record.RecordFault.TheVariants as fault
 use Rattle.drivefile.specs.Bytes.{block_at, bytes4, le32}
 use Rattle.drivefile.specs.Header.{blocks_for, header_due, needed}
 use Rattle.drivefile.specs.Items.{sample_place, turn_place}
-use Rattle.drivefile.specs.Order.{Passed, Passes, block_tests, header_tests, later_tests, test, tests, turn_block_tests, value_tests}
-use Rattle.drivefile.specs.Reading.{legal_length, reading, turns_due, turns_in}
+use Rattle.drivefile.specs.Order.{Passed, Passes, block_tests, header_tests, later_tests, test, tests, turn_block_tests, turns_in_block, value_tests}
+use Rattle.drivefile.specs.Reading.{legal_length, reading, turns_due}
 use Rattle.drivefile.specs.Record.{DriveRecord, RecordRange, recorded, values_in}
 use Rattle.drivefile.specs.File.{file_of, header_payload, items_block, part, sealed, section_number, value_words}
 use Rattle.drivefile.specs.declared.header.Header.{Header}
@@ -56,7 +56,7 @@ section_read kind.Envelope n start first second e a b c p =
     record {
       number_read = refl;
       words_read = λ i. of_z-to_z w32 start a i ∷ first ∷ sym (eqb-true second 0 q.1.0) i ∷ [];
-      range_read = and_from _ _ (word_within (to_z w32 start) (to_z_Fits w32 start (record { fits = a }))) q.0;
+      range_read = and_from _ _ (word_within (to_z w32 start) (to_z-Fits w32 start (record { fits = a }))) q.0;
     }
 
 -- a block of bytes is a list of bytes
@@ -171,7 +171,7 @@ module _ (file : List ℕ) (fit : Bytes file) (h : Header) (read : reading file 
   turn_tests b l k = subst Passed (cond-false (leb b (blocks_for h.samples 125)) _ _ (lt-leb b (blocks_for h.samples 125) (omega arith))) (later_passed b (omega arith) k)
 
   abbrev turns_here : ℕ → ℕ
-  turns_here b = turns_in h.samples h.turns b
+  turns_here b = turns_in_block h.samples h.turns b
 
   turn_parts : (b : ℕ) → 1 + blocks_for h.samples 125 ≤ b → b < count
       → Passed (block_tests b (turns_due (turns_here b)) (block_at file b)) × Passed (map (λ i. test (ltb (get_or (block_at file b) i 0) h.workers) (fault.Worker b i)) (range_with_len 8 (turns_here b)))

@@ -1,6 +1,6 @@
 -- Blocks of items, over the width of an item: samples of four bytes, turns of one.
 use Rattle.std.proofs.Common.{◌≡◌, ℕ, ◌+◌, ◌-◌, ◌*◌, ◌/◌, ◌%◌, ◌<◌, ◌≤◌, min, List, map, length, take, drop, sym, refl, ap, ◌∙◌, subst, arith}
-use Rattle.std.specs.List.{range_with_len, flat_map, AllByRecursion as All}
+use Rattle.std.specs.List.{range_with_len, flat_map, AllByRecursion}
 use Rattle.std.proofs.lemmas.Nat.{div-mul-add, mod-mul-add, mul-le}
 use Rattle.std.proofs.ByRecursion.{All-drop, All-take}
 use Rattle.std.proofs.lemmas.List.FromFn.{length-map-range_with_len}
@@ -44,7 +44,7 @@ module _ (q most : ℕ) (read : List ℕ → ℕ → ℕ) (write : ℕ → List 
       sealed_passed kind b (length (part per xs (b - from))) (bytes_in xs b) (fits xs b) (items_due (length xs) b) refl e (length_bytes_in xs b) lk lb (omega arith)
 
   -- blocks of as many items that are the same hold the same items
-  pub items_same : (xs ys : List ℕ) (b : ℕ) → All (λ x. x < most) xs → All (λ x. x < most) ys → length xs ≡ length ys
+  pub items_same : (xs ys : List ℕ) (b : ℕ) → AllByRecursion (λ x. x < most) xs → AllByRecursion (λ x. x < most) ys → length xs ≡ length ys
       → items_block kind per write from xs b ≡ items_block kind per write from ys b → part per xs (b - from) ≡ part per ys (b - from)
   items_same xs ys b p r l e =
       let m = length_part per xs (b - from) in
@@ -58,7 +58,7 @@ module _ (q most : ℕ) (read : List ℕ → ℕ → ℕ) (write : ℕ → List 
       written_same q most read write c (part per xs (b - from)) (part per ys (b - from)) (All-take _ per _ (All-drop _ (per * (b - from)) xs p)) (All-take _ per _ (All-drop _ (per * (b - from)) ys r)) same_length bytes
 
   -- all of them, where each block does
-  pub all_same : (xs ys : List ℕ) → 0 < per → All (λ x. x < most) xs → All (λ x. x < most) ys → length xs ≡ length ys
+  pub all_same : (xs ys : List ℕ) → 0 < per → AllByRecursion (λ x. x < most) xs → AllByRecursion (λ x. x < most) ys → length xs ≡ length ys
       → ((b : ℕ) → from ≤ b → b < from + blocks_for (length xs) per → items_block kind per write from xs b ≡ items_block kind per write from ys b) → xs ≡ ys
   all_same xs ys some p r l h =
       let n = blocks_for (length xs) per in

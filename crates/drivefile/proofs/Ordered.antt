@@ -15,8 +15,8 @@ use Rattle.drivefile.specs.Block.{block_test, filled}
 use Rattle.drivefile.specs.Bytes.{block_at, le32}
 use Rattle.drivefile.specs.File.{network_number}
 use Rattle.drivefile.specs.Header.{header_due, header_values, kind_of, network_of, none_at_fault, section_of}
-use Rattle.drivefile.specs.Order.{FirstOf, Passed, Test, block_tests, header_tests, later_tests, test, tests, value_tests}
-use Rattle.drivefile.specs.Reading.{later_block, later_test, reading, samples_due, samples_in, turns_due, turns_in, workers_known}
+use Rattle.drivefile.specs.Order.{FirstOf, Passed, Test, block_tests, header_tests, later_tests, samples_in_block, test, tests, turns_in_block, value_tests}
+use Rattle.drivefile.specs.Reading.{later_block, later_test, reading, samples_due, turns_due, workers_known}
 use Rattle.drivefile.specs.declared.block.Due.{Due}
 use Rattle.drivefile.specs.declared.header.Header.{Header}
 use Rattle.drivefile.specs.declared.header.SectionKind.{SectionKind}
@@ -114,9 +114,9 @@ runs_values blocks bs =
 -- a later block against its tests
 runs_later : (h : Header) (b : ℕ) (bs : List ℕ) → Runs Any (λ f. f) (later_block h b bs) (later_tests h.samples h.turns h.workers b bs)
 runs_later h b bs =
-    runs_cond _ (runs_block b (samples_due (samples_in h.samples b)) bs)
-    (runs_then Any _ (runs_block b (turns_due (turns_in h.samples h.turns b)) bs) (λ _ _.
-    runs_found (workers_known b) tt (fault.Worker b) _ tt refl (λ _. refl) (runs_scan (fault.Worker b) h.workers bs (λ n. ltb n h.workers) (λ _. refl) 8 (turns_in h.samples h.turns b))))
+    runs_cond _ (runs_block b (samples_due (samples_in_block h.samples b)) bs)
+    (runs_then Any _ (runs_block b (turns_due (turns_in_block h.samples h.turns b)) bs) (λ _ _.
+    runs_found (workers_known b) tt (fault.Worker b) _ tt refl (λ _. refl) (runs_scan (fault.Worker b) h.workers bs (λ n. ltb n h.workers) (λ _. refl) 8 (turns_in_block h.samples h.turns b))))
 
 -- the blocks after the header against their tests, by the counts in block 0
 runs_rest : (file : List ℕ) (h : Header) (n : ℕ) → OfBlock (block_at file 0) h → Runs Any (λ f. f) (each_of (later_test h file) 1 n) (flat_map (λ b. later_tests (le32 (block_at file 0) 12) (le32 (block_at file 0) 16) (get_or (block_at file 0) 11 0) b (block_at file b)) (range_with_len 1 n))

@@ -1,7 +1,7 @@
 -- The values of a section in range as words, and what tells sections and networks apart.
 use Rattle.std.proofs.Common.{◌≡◌, ℕ, ◌-◌, ◌^◌, ◌<◌, true, ltb, get_or, ℤ, pos, negsuc, neg_ℤ, ◌≤ℤ◌, sym, refl, ap, ◌∙◌, arith, w32, SFits, to_z, of_z}
 use mir.ValLaws.{of_z_fits}
-use Rattle.std.specs.List.{AllByRecursion as All}
+use Rattle.std.specs.List.{AllByRecursion}
 use Rattle.std.proofs.lemmas.Int.{ints, to_z-of_z}
 use Rattle.std.proofs.lemmas.Bool.{and_parts, ltb-true}
 use Rattle.sections.specs.Range.{within}
@@ -50,7 +50,7 @@ envelope_word start d h =
     let w = within_true _ _ start p.0 in in_word start w.from w.to
 
 -- the values of a section in range are words
-pub value_fit : (s : SectionChoice) → values_in s ≡ true → All (λ x. x < 2 ^ 32) (value_words s)
+pub value_fit : (s : SectionChoice) → values_in s ≡ true → AllByRecursion (λ x. x < 2 ^ 32) (value_words s)
 value_fit (section.Stroke start lower upper) h =
     let w = stroke_words start lower upper h in
     ((of_z_fits w32 start w.start_word).fits, ((of_z_fits w32 lower w.lower_word).fits, ((of_z_fits w32 upper w.upper_word).fits, tt)))

@@ -78,7 +78,7 @@ header_range file h r a =
       workers_to = p.workers_to;
       samples_to = p.samples_to;
       turns_to = p.turns_to;
-      values_hold = no_value_at_fault r.section p.section_values;
+      values_in = no_value_at_fault r.section p.section_values;
     })
 
 pub refused : (file : List ℕ) (f : RecordFault) → reading file ≡ Err f → Refused file f

@@ -1,6 +1,6 @@
 -- What holds of the reader, for any bytes: a file is accepted exactly when it is the file of a record in range.
 use Rattle.std.specs.Prelude.{◌≡◌, ℕ, ◌<◌, List, Ok, Err, Result, ◌≢◌}
-use Rattle.std.specs.List.{AllByRecursion as All}
+use Rattle.std.specs.List.{AllByRecursion}
 use Rattle.faults.specs.declared.record.RecordFault.{RecordFault}
 use Rattle.drivefile.specs.Order.{FirstOf, Passed, tests}
 use Rattle.drivefile.specs.Reading.{reading}
@@ -32,7 +32,7 @@ pub record Refused (file : List ℕ) (fault : RecordFault) : Type 0 where
 -- Each record in range has one file: it is made of bytes, and reading it gives the record; two records in range with the
 -- same file are the same record.
 pub record OneFile : Type 0 where
-  pub bytes : (r : DriveRecord) → RecordRange r → All (λ b. b < 256) (file_of r)
+  pub bytes : (r : DriveRecord) → RecordRange r → AllByRecursion (λ b. b < 256) (file_of r)
   pub read_back : (r : DriveRecord) → RecordRange r → record_of (file_of r) ≡ Ok r
   pub apart : (r s : DriveRecord) → RecordRange r → RecordRange s → file_of r ≡ file_of s → r ≡ s
 

@@ -47,16 +47,16 @@ values_fault (section.Roll start c) = None
 values_fault (section.Envelope start d) = decay_fault d
 
 -- a section whose values are in range, or the fault of the first that is not
-abbrev pub section_tested : SectionChoice → Result SectionChoice RecordFault
-section_tested s = none_at_fault (values_fault s) (Ok s)
+abbrev pub in_range : SectionChoice → Result SectionChoice RecordFault
+in_range s = none_at_fault (values_fault s) (Ok s)
 
 -- a section with no second parameter has 0 in its place
 abbrev pub without_second : SectionChoice → ℕ → Result SectionChoice RecordFault
-without_second s second = and_then (section_tested s) (λ t. expect (second == 0) (fault.Value Second) (Ok t))
+without_second s second = and_then (in_range s) (λ t. expect (second == 0) (fault.Value Second) (Ok t))
 
 -- the words at bytes 20, 24 and 28: start state, lower stop or c or d, upper stop or 0
 abbrev pub section_of : SectionKind → ℕ → ℕ → ℕ → Result SectionChoice RecordFault
-section_of kind.Stroke start first second = section_tested (section.Stroke (to_z w32 start) (to_z w32 first) (to_z w32 second))
+section_of kind.Stroke start first second = in_range (section.Stroke (to_z w32 start) (to_z w32 first) (to_z w32 second))
 section_of kind.Roll start first second = without_second (section.Roll start first) second
 section_of kind.Envelope start first second = without_second (section.Envelope (to_z w32 start) first) second
 
@@ -68,7 +68,7 @@ pub record InRange (h : Header) : Type 0 where
   pub workers_to : h.workers ≤ 8
   pub samples_to : h.samples ≤ 65536
   pub turns_to : h.turns ≤ 65536
-  pub values_hold : values_fault h.section ≡ None
+  pub values_in : values_fault h.section ≡ None
 
 -- how many blocks n items take, `per` items a block: the quotient, and one more for a remainder
 abbrev pub blocks_for : ℕ → ℕ → ℕ

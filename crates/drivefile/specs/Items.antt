@@ -23,6 +23,14 @@ samples_of file n = map (sample_at file) (range_with_len 0 n)
 abbrev pub put_block : List ℕ → ℕ → ℕ → List ℕ → List ℕ
 put_block file b n out = take (125 * b) out ++ (words_from file (512 * (1 + b) + 8) n ++ drop n (drop (125 * b) out))
 
+-- a list is long enough for the samples, or refused
+abbrev pub copying : Header → List ℕ → Result (Unit {0}) RunFault
+copying h out = cond (nat_le h.samples (length out)) (Ok tt) (Err Memory)
+
+-- the list after that: the samples at its front and its other places as they were, or all as it was
+abbrev pub copied : Header → List ℕ → List ℕ → List ℕ
+copied h file out = cond (nat_le h.samples (length out)) (samples_of file h.samples ++ drop h.samples out) out
+
 -- a list has n places, or is refused
 abbrev pub room_for : ℕ → List ℕ → Result (Unit {0}) RunFault
 room_for n out = cond (nat_le n (length out)) (Ok tt) (Err Memory)
@@ -39,6 +47,6 @@ turn_place samples i = 512 * (1 + blocks_for samples 125 + i / 500) + 8 + i % 50
 abbrev pub turns_of : List ℕ → ℕ → ℕ → List ℕ
 turns_of file samples n = map (λ i. slice_index file (turn_place samples i)) (range_with_len 0 n)
 
--- the same by a header: the worker of turn i in the bytes, or none from its number of turns on
+-- the worker of turn i, or none from the number of turns on
 abbrev pub turn_at : List ℕ → Header → ℕ → Option ℕ
 turn_at file h i = cond (nat_lt i h.turns) (Some (slice_index file (turn_place h.samples i))) None

@@ -1,9 +1,9 @@
 -- The tests of a file in their order, as one list: each with the fault that it names. That this is the order of `reading` is
 -- proved, so a reader may believe either.
-use Rattle.std.specs.Prelude.{◌≡◌, ℕ, ◌+◌, ◌-◌, ◌/◌, ◌^◌, Bool, true, false, cond, ◌&&◌, List, [], ◌∷◌, ◌++◌, map, length, ℤ, pos, neg_ℤ, Ok, Err, Result, ◌==◌, nat_le, nat_lt, slice_index}
+use Rattle.std.specs.Prelude.{◌≡◌, ℕ, ◌+◌, ◌-◌, ◌*◌, ◌/◌, min, ◌^◌, Bool, true, false, cond, ◌&&◌, List, [], ◌∷◌, ◌++◌, map, length, ℤ, pos, neg_ℤ, ◌==◌, nat_le, nat_lt, slice_index}
 use Rattle.std.specs.Int.{w32}
 use Rattle.std.proofs.Common.{to_z}
-use Rattle.std.specs.List.{range_with_len, flat_map, AllByRecursion as All}
+use Rattle.std.specs.List.{range_with_len, flat_map, AllByRecursion}
 use Rattle.faults.specs.declared.block.BlockFault.TheVariants.{Length, Check, Frame, Filling}
 use Rattle.faults.specs.declared.block.Field.TheVariants.{Kind, Number, Count, Zero}
 use Rattle.faults.specs.declared.record.Choice.TheVariants as choice
@@ -16,7 +16,7 @@ use Rattle.sections.specs.Stroke.{reach}
 use Rattle.drivefile.specs.Block.{check_of}
 use Rattle.drivefile.specs.Bytes.{block_at, le16, le32}
 use Rattle.drivefile.specs.Header.{blocks_for, header_due, needed}
-use Rattle.drivefile.specs.Reading.{legal_length, samples_due, samples_in, turns_due, turns_in}
+use Rattle.drivefile.specs.Reading.{legal_length, samples_due, turns_due}
 use Rattle.drivefile.specs.declared.block.Due.{Due}
 
 pub record Test : Type 0 where
@@ -65,15 +65,23 @@ header_tests blocks bs =
     ++ test (blocks == needed (le32 bs 12) (le32 bs 16)) fault.Blocks
     ∷ []
 
+-- how many of n samples block b of the file holds, b from 1
+abbrev pub samples_in_block : ℕ → ℕ → ℕ
+samples_in_block n b = min 125 (n - 125 * (b - 1))
+
+-- how many of m turns block b of the file holds, after the blocks of n samples
+abbrev pub turns_in_block : ℕ → ℕ → ℕ → ℕ
+turns_in_block n m b = min 500 (m - 500 * (b - (1 + blocks_for n 125)))
+
 -- block b of samples
 abbrev pub sample_block_tests : ℕ → ℕ → List ℕ → List Test
-sample_block_tests n b bs = block_tests b (samples_due (samples_in n b)) bs
+sample_block_tests n b bs = block_tests b (samples_due (samples_in_block n b)) bs
 
 -- block b of turns: as a block, then each turn's worker below W
 abbrev pub turn_block_tests : ℕ → ℕ → ℕ → ℕ → List ℕ → List Test
 turn_block_tests n m w b bs =
-    block_tests b (turns_due (turns_in n m b)) bs
-    ++ map (λ i. test (nat_lt (slice_index bs i) w) (fault.Worker b i)) (range_with_len 8 (turns_in n m b))
+    block_tests b (turns_due (turns_in_block n m b)) bs
+    ++ map (λ i. test (nat_lt (slice_index bs i) w) (fault.Worker b i)) (range_with_len 8 (turns_in_block n m b))
 
 -- block b after the header, of n samples, m turns and w workers
 abbrev pub later_tests : ℕ → ℕ → ℕ → ℕ → List ℕ → List Test
@@ -95,7 +103,7 @@ abbrev pub Passes : Test → Type 0
 Passes t = t.passes ≡ true
 
 abbrev pub Passed : List Test → Type 0
-Passed = All Passes
+Passed = AllByRecursion Passes
 
 -- a fault is the first of a list: the test that names it fails, and every test before it passes
 pub record FirstOf (ts : List Test) (f : RecordFault) : Type 0 where

@@ -27,23 +27,19 @@ abbrev pub workers_known : ℕ → Option ℕ → Result (Unit {0}) RecordFault
 workers_known b None = Ok tt
 workers_known b (Some i) = Err (Worker b i)
 
--- how many of n samples block b of the file holds, b from 1
-abbrev pub samples_in : ℕ → ℕ → ℕ
-samples_in n b = min 125 (n - 125 * (b - 1))
-
--- how many of m turns block b of the file holds, after the blocks of n samples
-abbrev pub turns_in : ℕ → ℕ → ℕ → ℕ
-turns_in n m b = min 500 (m - 500 * (b - (1 + blocks_for n 125)))
-
--- block b of the file, which holds samples
+-- block b of the samples, b from 1
 abbrev pub sample_block : Header → ℕ → List ℕ → Result (Unit {0}) RecordFault
-sample_block h b bs = lifted (block_test b (samples_due (samples_in h.samples b)) bs)
+sample_block h b bs = lifted (block_test b (samples_due (min 125 (h.samples - 125 * (b - 1)))) bs)
+
+-- how many turns block b of the file holds
+abbrev pub turns_in : Header → ℕ → ℕ
+turns_in h b = min 500 (h.turns - 500 * (b - (1 + blocks_for h.samples 125)))
 
 -- block b of the file, which holds turns, each of a worker below W
 abbrev pub turn_block : Header → ℕ → List ℕ → Result (Unit {0}) RecordFault
 turn_block h b bs =
-    and_then (lifted (block_test b (turns_due (turns_in h.samples h.turns b)) bs)) (λ _.
-    workers_known b (first_from h.workers bs 8 (turns_in h.samples h.turns b)))
+    and_then (lifted (block_test b (turns_due (turns_in h b)) bs)) (λ _.
+    workers_known b (first_from h.workers bs 8 (turns_in h b)))
 
 -- block b, after the header: the samples' blocks first
 abbrev pub later_block : Header → ℕ → List ℕ → Result (Unit {0}) RecordFault

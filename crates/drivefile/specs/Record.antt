@@ -1,6 +1,6 @@
 -- A drive record, apart from any file: what it holds, and its ranges.
 use Rattle.std.specs.Prelude.{◌≡◌, ℕ, ◌-◌, ◌^◌, ◌<◌, ◌≤◌, Bool, true, cond, ◌&&◌, List, length, pos, neg_ℤ, Some, None, Option, Result, nat_lt, slice_index}
-use Rattle.std.specs.List.{AllByRecursion as All}
+use Rattle.std.specs.List.{AllByRecursion}
 use Rattle.faults.specs.declared.run.RunFault.{RunFault}
 use Rattle.sections.specs.Range.{within}
 use Rattle.sections.specs.Stroke.{reach}
@@ -35,8 +35,8 @@ pub record RecordRange (r : DriveRecord) : Type 0 where
   pub samples_to : length r.samples ≤ 65536
   pub turns_to : length r.turns ≤ 65536
   pub section_values : values_in r.section ≡ true
-  pub sample_words : All (λ x. x < 2 ^ 32) r.samples
-  pub turn_workers : All (λ w. w < r.workers) r.turns
+  pub sample_words : AllByRecursion (λ x. x < 2 ^ 32) r.samples
+  pub turn_workers : AllByRecursion (λ w. w < r.workers) r.turns
 
 -- the header's values of a record
 abbrev pub headed : DriveRecord → Header
@@ -47,12 +47,12 @@ abbrev pub recorded : List ℕ → Header → DriveRecord
 recorded file h = record { section = h.section; exponent = h.exponent; network = h.network; workers = h.workers; samples = samples_of file h.samples; turns = turns_of file h.samples h.turns }
 
 -- copying a record's samples to a list: refused where it has fewer places than there are samples
-abbrev pub copying : DriveRecord → List ℕ → Result (Unit {0}) RunFault
-copying r out = room_for (length r.samples) out
+abbrev pub copying_record : DriveRecord → List ℕ → Result (Unit {0}) RunFault
+copying_record r out = room_for (length r.samples) out
 
 -- the list after that: the samples at its front and its other places as they were, or all as it was
-abbrev pub copied : DriveRecord → List ℕ → List ℕ
-copied r out = put_front (length r.samples) r.samples out
+abbrev pub copied_record : DriveRecord → List ℕ → List ℕ
+copied_record r out = put_front (length r.samples) r.samples out
 
 -- the worker of turn i, or none from the number of turns on
 abbrev pub turn_of : DriveRecord → ℕ → Option ℕ

@@ -79,7 +79,7 @@ pub(crate) fn first_from(block: &[u8], limit: u8, from: usize, to: usize) -> Opt
 // The payload after the bytes used is zero.
 fn test_filling(block: &[u8], number: usize, due: Due) -> Result<(), BlockFault>
     requires long { length block.now ≡ 512 }
-    requires room { due.used ≤ 500 }
+    requires room { due.used ≤ 502 }
     ensures { result ≡ filling number due block.now }
 {
     match first_from(block, 1, 8 + due.used, 510) {
@@ -94,7 +94,7 @@ fn test_filling(block: &[u8], number: usize, due: Due) -> Result<(), BlockFault>
 // Block `number` is framed and filled as is due: check, frame, filling.
 pub(crate) fn test_block(block: &[u8], number: usize, due: Due) -> Result<(), BlockFault>
     requires long { length block.now ≡ 512 }
-    requires room { due.used ≤ 500 }
+    requires room { due.used ≤ 502 }
     ensures { result ≡ block_test number due block.now }
 {
     if check(block) != le16(block, 510) {

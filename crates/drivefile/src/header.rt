@@ -1,6 +1,6 @@
 // The header: block 0 of the file, and its values as types.
-ghost use Rattle.std.specs.Prelude.{◌≡◌, ◌+◌, ◌<◌, ◌≤◌, length, Ok};
-ghost use Rattle.drivefile.specs.Header.{blocks_for, header_of, header_values, kind_of, network_of, none_at_fault, section_of, section_tested, stroke_fault, without_second};
+ghost use Rattle.std.specs.Prelude.{◌≡◌, ◌+◌, ◌<◌, ◌≤◌, length, IfOk, None, Ok};
+ghost use Rattle.drivefile.specs.Header.{InRange, blocks_for, header_of, header_values, in_range, kind_of, network_of, none_at_fault, section_of, stroke_fault, values_fault, without_second};
 
 use crate::block::{Due, test_block};
 use crate::bytes::le32;
@@ -84,7 +84,8 @@ fn test_stroke(start: i32, lower: i32, upper: i32) -> Result<(), RecordFault>
 
 // The section, where its start state and its parameters are in range.
 fn in_range(section: SectionChoice) -> Result<SectionChoice, RecordFault>
-    ensures { result ≡ section_tested section }
+    ensures value { result ≡ in_range section }
+    ensures values { IfOk result (λ it. values_fault it ≡ None) }
 {
     match section {
         SectionChoice::Stroke {
@@ -102,7 +103,8 @@ fn in_range(section: SectionChoice) -> Result<SectionChoice, RecordFault>
 
 // A section in range that has no second parameter: its place in the header is zero.
 fn without_second(section: SectionChoice, second: u32) -> Result<SectionChoice, RecordFault>
-    ensures { result ≡ without_second section second }
+    ensures value { result ≡ without_second section second }
+    ensures values { IfOk result (λ it. values_fault it ≡ None) }
 {
     let section = in_range(section)?;
     if second != 0 {
@@ -118,7 +120,8 @@ fn section_choice(
     first: u32,
     second: u32,
 ) -> Result<SectionChoice, RecordFault>
-    ensures { result ≡ section_of kind start first second }
+    ensures value { result ≡ section_of kind start first second }
+    ensures values { IfOk result (λ it. values_fault it ≡ None) }
 {
     let signed = start.cast_signed();
     match kind {
@@ -156,7 +159,8 @@ pub(crate) fn blocks_for(items: u32, per: usize) -> usize
 // The header's values, in the order of their tests.
 fn header_values(block: &[u8], blocks: usize) -> Result<Header, RecordFault>
     requires { length block.now ≡ 512 }
-    ensures { result ≡ header_values blocks block.now }
+    ensures value { result ≡ header_values blocks block.now }
+    ensures range { IfOk result InRange }
 {
     let kind = section_kind(block[8])?;
     let exponent = block[9];
@@ -193,7 +197,8 @@ fn header_values(block: &[u8], blocks: usize) -> Result<Header, RecordFault>
 // The header of a file of so many blocks, from its first block.
 pub(crate) fn read_header(block: &[u8], blocks: usize) -> Result<Header, RecordFault>
     requires { length block.now ≡ 512 }
-    ensures { result ≡ header_of blocks block.now }
+    ensures value { result ≡ header_of blocks block.now }
+    ensures range { IfOk result InRange }
 {
     test_block(
         block,

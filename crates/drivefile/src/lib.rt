@@ -1,5 +1,7 @@
 // The drive file: 512-byte blocks that hold a header, samples and turns. The reader borrows the file's bytes and gives
 // a record, or names the first fault. Relies on `faults`, and on `sections` for the ranges of their parameters.
+#![tactic(auto)]
+
 mod block;
 mod bytes;
 mod check;

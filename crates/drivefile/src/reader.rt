@@ -1,7 +1,7 @@
 // The reader's tests over a whole file: its length, its header, then each later block.
-ghost use Rattle.std.specs.Prelude.{◌≡◌, ◌+◌, ◌-◌, ◌*◌, ◌≤◌, length};
+ghost use Rattle.std.specs.Prelude.{◌≡◌, ◌+◌, ◌-◌, ◌*◌, ◌≤◌, length, IfOk};
 ghost use Rattle.drivefile.specs.Bytes.{block_at};
-ghost use Rattle.drivefile.specs.Header.{blocks_for};
+ghost use Rattle.drivefile.specs.Header.{InRange};
 ghost use Rattle.drivefile.specs.Reading.{later_block, later_test, legal_length, reading, sample_block, turn_block};
 ghost use Rattle.drivefile.specs.Tests.{each_of};
 
@@ -13,7 +13,7 @@ use faults::{BlockFault, RecordFault};
 const MOST_BLOCKS: usize = 658;
 
 // The bytes of the longest file.
-pub const MOST_BYTES: usize = BLOCK * MOST_BLOCKS;
+pub const MOST_BYTES: usize = 336_896;
 
 // A whole number of blocks, from 1 to the most that a record takes.
 fn legal_length(bytes: usize) -> bool
@@ -55,16 +55,16 @@ fn test_samples(block: &[u8], number: usize, header: Header) -> Result<(), Recor
     Ok(())
 }
 
-// Block `number` of the file, which holds turns: each names a worker below W. The sample blocks, `before`, come first.
-fn test_turns(block: &[u8], number: usize, before: usize, header: Header) -> Result<(), RecordFault>
+// Block `number` of the file, which holds turns: each names a worker below W.
+fn test_turns(block: &[u8], number: usize, header: Header) -> Result<(), RecordFault>
     requires long { length block.now ≡ 512 }
     requires low { 1 ≤ number }
     requires high { number ≤ 658 }
-    requires samples { before ≡ blocks_for header.samples 125 }
     ensures { result ≡ turn_block header number block.now }
 {
+    let before = number.saturating_sub(1 + blocks_for(header.samples, SAMPLES_PER_BLOCK));
     let count = TURNS_PER_BLOCK.min(
-        (header.turns as usize).saturating_sub(TURNS_PER_BLOCK * number.saturating_sub(1 + before)),
+        (header.turns as usize).saturating_sub(TURNS_PER_BLOCK * before),
     );
     test_block(
         block,
@@ -84,18 +84,17 @@ fn test_turns(block: &[u8], number: usize, before: usize, header: Header) -> Res
     }
 }
 
-// Block `number`, after the header: the sample blocks, `before`, come first.
-fn test_later(block: &[u8], number: usize, before: usize, header: Header) -> Result<(), RecordFault>
+// Block `number`, after the header: the samples' blocks come first.
+fn test_later(block: &[u8], number: usize, header: Header) -> Result<(), RecordFault>
     requires long { length block.now ≡ 512 }
     requires low { 1 ≤ number }
     requires high { number ≤ 658 }
-    requires samples { before ≡ blocks_for header.samples 125 }
     ensures { result ≡ later_block header number block.now }
 {
-    if number <= before {
+    if number <= blocks_for(header.samples, SAMPLES_PER_BLOCK) {
         test_samples(block, number, header)
     } else {
-        test_turns(block, number, before, header)
+        test_turns(block, number, header)
     }
 }
 
@@ -106,16 +105,16 @@ fn test_rest(file: &[u8], blocks: usize, header: Header) -> Result<(), RecordFau
     requires most { blocks ≤ 658 }
     ensures { result ≡ each_of (later_test header file.now) 1 (blocks - 1) }
 {
-    let before = blocks_for(header.samples, SAMPLES_PER_BLOCK);
     for number in 1..blocks {
-        test_later(block_of(file, number), number, before, header)?;
+        test_later(block_of(file, number), number, header)?;
     }
     Ok(())
 }
 
 // The header of a file that passes every test, or the first fault.
 pub(crate) fn test_file(file: &[u8]) -> Result<Header, RecordFault>
-    ensures { result ≡ reading file.now }
+    ensures value { result ≡ reading file.now }
+    ensures range { IfOk result InRange }
 {
     if !legal_length(file.len()) {
         return Err(RecordFault::Block(BlockFault::Length));

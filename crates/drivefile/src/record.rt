@@ -2,9 +2,9 @@
 ghost use Rattle.std.specs.Prelude.{◌≡◌, ◌^◌, ◌<◌, IfOk, Ok, Err, MatchResult};
 ghost use Rattle.drivefile.specs.Exact.{Exact};
 ghost use Rattle.drivefile.specs.Header.{InRange};
-ghost use Rattle.drivefile.specs.Items.{turn_at, turn_place};
+ghost use Rattle.drivefile.specs.Items.{copied, copying, turn_at, turn_place};
 ghost use Rattle.drivefile.specs.Reading.{reading};
-ghost use Rattle.drivefile.specs.Record.{copied, copying, recorded, turn_of};
+ghost use Rattle.drivefile.specs.Record.{copied_record, copying_record, recorded, turn_of};
 
 use crate::block::{BLOCK, payload};
 use crate::bytes::byte_at;
@@ -38,17 +38,21 @@ impl<'a> Record<'a> {
         self.header
     }
 
-    // Copies the samples to the front of `out` and leaves the rest; refuses a list that is too short.
+    // Copies the samples to the front of `out` and leaves the rest; refuses a list that is too short. `of_record` and
+    // `after_of_record` say the same of the record's own list of samples.
     pub fn samples(&self, out: &mut [u32]) -> Result<(), RunFault>
-        ensures value { result ≡ copying (recorded self.now.file.now self.now.header) out.old }
-        ensures after { out.new ≡ copied (recorded self.now.file.now self.now.header) out.old }
+        ensures value { result ≡ copying self.now.header out.old }
+        ensures after { out.new ≡ copied self.now.header self.now.file.now out.old }
+        ensures of_record { result ≡ copying_record (recorded self.now.file.now self.now.header) out.old }
+        ensures after_of_record { out.new ≡ copied_record (recorded self.now.file.now self.now.header) out.old }
     {
         copy_all(self.file, self.header.samples, out)
     }
 
-    // The worker of a turn by its number from 0, or none.
+    // The worker of a turn by its number from 0, or none. `of_record` says the same of the record's own list of turns.
     pub fn turn(&self, number: usize) -> Option<u8>
-        ensures { result ≡ turn_of (recorded self.now.file.now self.now.header) number }
+        ensures value { result ≡ turn_at self.now.file.now self.now.header number }
+        ensures of_record { result ≡ turn_of (recorded self.now.file.now self.now.header) number }
     {
         turn_in(self.file, self.header, number)
     }

@@ -1,5 +1,7 @@
 // The program: a drive file comes in on standard input, and the words of its section go out, sample by sample, or the
 // refusal. The work is in the crate `evaluation`; here is only what reads and prints.
+#![tactic(auto)]
+
 use drivefile::{MOST_BYTES, MOST_ITEMS};
 use evaluation::print_evaluation;
 use std::io::{BufWriter, Read, Write};

@@ -104,7 +104,7 @@ fn print_words<W: Write>(out: &mut W, header: Header, words: &[u32]) -> io::Resu
 
 // Evaluates a file on a list of words that is lent, and prints its words, or its refusal.
 pub fn print_evaluation<W: Write>(out: &mut W, file: &[u8], words: &mut [u32]) -> io::Result<()>
-    ensures { words.new ≡ left_in file.now (reading file.now) words.old }
+    ensures { words.new ≡ left_in (reading file.now) file.now words.old }
 {
     match evaluate(file, words) {
         Ok(header) => print_words(out, header, words),

@@ -1,8 +1,9 @@
 // The evaluation of a drive file, on values.
 ghost use Rattle.std.specs.Prelude.{◌≡◌, None, Ok};
 ghost use Rattle.drivefile.specs.Header.{values_fault};
+ghost use Rattle.drivefile.specs.Items.{copying};
 ghost use Rattle.drivefile.specs.Reading.{reading};
-ghost use Rattle.evaluation.specs.Evaluated.{answer, left_in, section_words};
+ghost use Rattle.evaluation.specs.Evaluated.{answer, left_in, section_words, worded};
 
 use drivefile::{Header, Record, SectionChoice};
 use faults::{RecordFault, RunFault};
@@ -37,23 +38,25 @@ fn run_section(section: SectionChoice, samples: &mut [u32]) -> Result<(), Record
     Ok(())
 }
 
-// Puts a record's words at the front of `out` and answers its header, or refuses the list.
-fn put_words(source: &Record, out: &mut [u32]) -> Result<Header, RunFault>
+// Puts a record's words at the front of `out`.
+fn put_words(source: &Record, out: &mut [u32]) -> Result<(), RunFault>
     requires { values_fault source.now.header.section ≡ None }
-    ensures value { result ≡ answer source.now.file.now (Ok source.now.header) out.old }
-    ensures after { out.new ≡ left_in source.now.file.now (Ok source.now.header) out.old }
+    ensures value { result ≡ copying source.now.header out.old }
+    ensures after { out.new ≡ worded source.now.header source.now.file.now out.old }
 {
     source.samples(out)?;
     let header = source.header();
     run_section(header.section, &mut out[0..header.samples as usize])?;
-    Ok(header)
+    Ok(())
 }
 
 // Evaluates a file: answers its header and puts its words at the front of `out`. Refuses what the reader refuses, and a
 // list with fewer places than the record has samples; a refusal leaves the list as it was.
 pub fn evaluate(file: &[u8], out: &mut [u32]) -> Result<Header, RunFault>
-    ensures value { result ≡ answer file.now (reading file.now) out.old }
-    ensures after { out.new ≡ left_in file.now (reading file.now) out.old }
+    ensures value { result ≡ answer (reading file.now) out.old }
+    ensures after { out.new ≡ left_in (reading file.now) file.now out.old }
 {
-    put_words(&Record::read(file)?, out)
+    let record = Record::read(file)?;
+    put_words(&record, out)?;
+    Ok(record.header())
 }

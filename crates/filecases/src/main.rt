@@ -1,5 +1,7 @@
 // Tests of the reader as a table: each line of standard input is a command that makes or damages a drive file in
 // memory, or reads it and prints what the reader answered. The commands are listed in docs/testing.md.
+#![tactic(auto)]
+
 mod draft;
 
 use crate::draft::Draft;

@@ -1,5 +1,5 @@
 use Rattle.std.proofs.Common.{ℕ, Bool, ◌||◌, leb, get_or, is_some, Option, sym, ap, ◌∙◌, arith}
-use mathlib.Core.Bool.{or_assoc, or_false}
+use mathlib.Core.Bool.{or_assoc, or-false}
 use Rattle.drivefile.proofs.Scans.{first_from_none, some_from_more}
 use Rattle.drivefile.proofs.block.any_from.Goals as goal
 
@@ -13,4 +13,4 @@ pub returns : goal.returns
 returns c =
     sym (c.loop-i.invariant
     ∙ ap (λ (o : Option ℕ). c.loop-i.any || is_some o) (first_from_none c.args.limit c.args.block.now c.loop-i.i _ (omega arith))
-    ∙ or_false c.loop-i.any)
+    ∙ or-false c.loop-i.any)

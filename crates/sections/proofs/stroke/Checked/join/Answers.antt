@@ -10,7 +10,7 @@ invariant_of-result c =
     let n = c.args.second in
     let is = joined_is m n _ _ _ c.held-add.ensures c.moved-low.ensures c.moved-high.ensures (omega (arith, ints)) (omega (arith, ints)) (omega (arith, ints)) in
     let h = subst Ordered (sym is) (joined_in (numbers m) (numbers n) (checked_in m) (checked_in n)) in
-    (h.add_in.from, (h.add_in.to, (h.low_from, (h.low_to, (h.high_to, tt)))))
+    record { add_from = h.add_in.from; add_to = h.add_in.to; low_from = h.low_from; low_to = h.low_to; high_to = h.high_to }
 
 pub returns : goal.returns
 returns c =
