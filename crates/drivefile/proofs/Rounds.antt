@@ -23,7 +23,7 @@ pub each_none : {E : Type 0} (t : ℕ → Result (Unit {0}) E) (b n : ℕ) → n
 each_none t b n e = rw e refl
 
 -- a loop that writes f i over the front of d, place by place
-fill_front : (f : ℕ → ℕ) (d : List ℕ) (i : ℕ) → i < length d → set (map f (range_with_len 0 i) ++ drop i d) i (f i) ≡ map f (range_with_len 0 (i + 1)) ++ drop (i + 1) d
+pub fill_front : (f : ℕ → ℕ) (d : List ℕ) (i : ℕ) → i < length d → set (map f (range_with_len 0 i) ++ drop i d) i (f i) ≡ map f (range_with_len 0 (i + 1)) ++ drop (i + 1) d
 fill_front f d i h =
     ap (λ (t : List ℕ). set (map f (range_with_len 0 i) ++ t) i (f i)) (drop_more d i 0 h)
     ∙ set_at (map f (range_with_len 0 i)) _ _ (f i) i (length-map-range_with_len f 0 i)

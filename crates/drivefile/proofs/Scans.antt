@@ -1,5 +1,6 @@
 -- The steps of the loops over a block's bytes.
 use Rattle.std.proofs.Common.{◌≡◌, ℕ, suc, ◌+◌, ◌-◌, ◌*◌, ◌<◌, ◌≤◌, ◌||◌, leb, List, get_or, is_some, Some, None, refl, ap, ◌∙◌, ⊎_elim, add-one, arith}
+use Rattle.std.proofs.lemmas.Nat.{mul-le}
 use Rattle.std.proofs.lemmas.Bool.{cases_lt, le-leb, le-ltb, lt-leb, lt-ltb}
 use Rattle.drivefile.specs.Block.{first_from, weighted, weighted_sum}
 use Rattle.drivefile.specs.Bytes.{le16}
@@ -39,3 +40,7 @@ weighted_all bs i s e h = h ∙ ap (weighted bs) e
 pub first_from_none : (limit : ℕ) (bs : List ℕ) (i n : ℕ) → n ≡ 0 → first_from limit bs i n ≡ None
 unfolding first_from
 first_from_none limit bs i n e = rw e refl
+
+-- a term of the sum is at most 255 × 65,535
+pub term_fits : (i w : ℕ) → i < 255 → w < 65536 → (i + 1) * w ≤ 16711425
+term_fits i w h k = mul-le (i + 1) w 255 65535 (omega arith) (omega arith)

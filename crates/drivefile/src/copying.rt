@@ -71,12 +71,12 @@ fn whole_blocks(count: usize, bytes: usize) -> usize
 
 // Copies the first `count` samples to the front of `out`: the full blocks that lie in the file, then the rest. In a
 // record the rest is at most one block, the last.
-fn copy_samples(file: &[u8], count: u32, out: &mut [u32])
-    requires { count ≤ length out.old }
+fn copy_samples(file: &[u8], count: usize, out: &mut [u32])
+    requires within { count ≤ length out.old }
+    requires small { count < 2 ^ 32 }
     ensures { out.new ≡ samples_of file.now count ++ drop count out.old }
 {
-    let blocks = blocks_for(count, SAMPLES_PER_BLOCK);
-    let count = count as usize;
+    let blocks = blocks_for(count as u32, SAMPLES_PER_BLOCK);
     let whole = whole_blocks(count, file.len());
     for block in 0..whole {
         copy_block(file, block, out);
@@ -94,6 +94,6 @@ pub(crate) fn copy_all(file: &[u8], count: u32, out: &mut [u32]) -> Result<(), R
     if out.len() < count as usize {
         return Err(RunFault::Memory);
     }
-    copy_samples(file, count, out);
+    copy_samples(file, count as usize, out);
     Ok(())
 }
