@@ -1,16 +1,17 @@
 // Faults of one block of a drive file, and of the file's length.
 ghost use Rattle.std.specs.Prelude.{◌≡◌};
-ghost use Rattle.faults.specs.Told.{block_told, field_byte};
+ghost use Rattle.faults.specs.Told.{block_told};
 
 use crate::refusal::{Layer, Refusal};
 
-// The parts of a block's frame that are due: its kind, its number, its item count and two zero bytes.
+// The parts of a block's frame that are due, each by the byte at which it begins: its kind, its number, its item count
+// and two zero bytes.
 #[derive(Clone, Copy, Debug)]
 pub enum Field {
-    Kind,
-    Number,
-    Count,
-    Zero,
+    Kind = 0,
+    Number = 2,
+    Count = 4,
+    Zero = 6,
 }
 
 #[derive(Clone, Copy, Debug)]
@@ -29,26 +30,17 @@ impl BlockFault {
     pub fn told(&self) -> Refusal
         ensures { result ≡ block_told self.now }
     {
-        let layer = Layer::Block;
-        match *self {
-            BlockFault::Length => Refusal::at(1, layer, 0, 0),
-            BlockFault::Check { block } => Refusal::at(2, layer, block, 510),
-            BlockFault::Frame { block, field } => Refusal::at(3, layer, block, field.byte()),
-            BlockFault::Filling { block, byte } => Refusal::at(4, layer, block, byte),
-        }
-    }
-}
-
-impl Field {
-    // The byte of a block at which the field begins.
-    fn byte(self) -> usize
-        ensures { result ≡ field_byte self }
-    {
-        match self {
-            Field::Kind => 0,
-            Field::Number => 2,
-            Field::Count => 4,
-            Field::Zero => 6,
+        let (code, block, byte) = match *self {
+            BlockFault::Length => (1, 0, 0),
+            BlockFault::Check { block } => (2, block, 510),
+            BlockFault::Frame { block, field } => (3, block, field as usize),
+            BlockFault::Filling { block, byte } => (4, block, byte),
+        };
+        Refusal {
+            code,
+            layer: Layer::Block,
+            block,
+            byte,
         }
     }
 }

@@ -1,33 +1,33 @@
 // Faults of the record that a file's blocks hold: values of the header out of range, and turns of unknown workers.
 ghost use Rattle.std.specs.Prelude.{◌≡◌};
-ghost use Rattle.faults.specs.Told.{at_header, record_told};
+ghost use Rattle.faults.specs.Told.{record_told};
 ghost use Rattle.faults.specs.declared.record.RecordFault.TheVariants.{Block};
 
 use crate::block::BlockFault;
 use crate::refusal::{Layer, Refusal};
 
-// The header's choices: bytes 8 to 11.
+// The header's choices, each by its byte.
 #[derive(Clone, Copy, Debug)]
 pub enum Choice {
-    Section,
-    Exponent,
-    Network,
-    Workers,
+    Section = 8,
+    Exponent = 9,
+    Network = 10,
+    Workers = 11,
 }
 
-// The header's counts: bytes 12 and 16.
+// The header's counts, each by the byte at which it begins.
 #[derive(Clone, Copy, Debug)]
 pub enum Counter {
-    Samples,
-    Turns,
+    Samples = 12,
+    Turns = 16,
 }
 
-// The start state and the section's parameters: bytes 20, 24 and 28.
+// The start state and the section's parameters, each by the byte at which it begins.
 #[derive(Clone, Copy, Debug)]
 pub enum Value {
-    Start,
-    First,
-    Second,
+    Start = 20,
+    First = 24,
+    Second = 28,
 }
 
 #[derive(Clone, Copy, Debug)]
@@ -58,26 +58,19 @@ impl RecordFault {
     pub fn told(&self) -> Refusal
         ensures { result ≡ record_told self.now }
     {
-        match *self {
-            RecordFault::Block(fault) => fault.told(),
-            RecordFault::Choice(Choice::Section) => header(5, 8),
-            RecordFault::Choice(Choice::Exponent) => header(5, 9),
-            RecordFault::Choice(Choice::Network) => header(5, 10),
-            RecordFault::Choice(Choice::Workers) => header(5, 11),
-            RecordFault::Counter(Counter::Samples) => header(6, 12),
-            RecordFault::Counter(Counter::Turns) => header(6, 16),
-            RecordFault::Value(Value::Start) => header(7, 20),
-            RecordFault::Value(Value::First) => header(7, 24),
-            RecordFault::Value(Value::Second) => header(7, 28),
-            RecordFault::Blocks => header(8, 12),
-            RecordFault::Worker { block, byte } => Refusal::at(9, Layer::Record, block, byte),
+        let (code, block, byte) = match *self {
+            RecordFault::Block(fault) => return fault.told(),
+            RecordFault::Choice(choice) => (5, 0, choice as usize),
+            RecordFault::Counter(counter) => (6, 0, counter as usize),
+            RecordFault::Value(value) => (7, 0, value as usize),
+            RecordFault::Blocks => (8, 0, 12),
+            RecordFault::Worker { block, byte } => (9, block, byte),
+        };
+        Refusal {
+            code,
+            layer: Layer::Record,
+            block,
+            byte,
         }
     }
-}
-
-// A refusal of the record layer that names a byte of the header, block 0.
-fn header(code: u8, byte: usize) -> Refusal
-    ensures { result ≡ at_header code byte }
-{
-    Refusal::at(code, Layer::Record, 0, byte)
 }

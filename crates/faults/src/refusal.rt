@@ -1,6 +1,5 @@
 // What a refusal tells: its number, the layer that found it, and the block and byte that it names.
-ghost use Rattle.std.specs.Prelude.{◌≡◌, ◌++◌, Some, codes, decimal};
-ghost use Rattle.faults.specs.Told.{refusal};
+ghost use Rattle.std.specs.Prelude.{◌++◌, Some, codes, decimal};
 ghost use Rattle.faults.specs.Words.{layer_word};
 
 use std::fmt;
@@ -22,19 +21,6 @@ pub struct Refusal {
     pub byte: usize,
 }
 
-impl Refusal {
-    pub(crate) fn at(code: u8, layer: Layer, block: usize, byte: usize) -> Refusal
-        ensures { result ≡ refusal code layer block byte }
-    {
-        Refusal {
-            code,
-            layer,
-            block,
-            byte,
-        }
-    }
-}
-
 impl fmt::Display for Layer {
     ghost output = { λ l. Some (layer_word l) };
 
@@ -51,10 +37,12 @@ impl fmt::Display for Refusal {
     ghost output = { λ r. Some (codes "refused " ++ (decimal r.code ++ (codes " " ++ (layer_word r.layer ++ (codes " " ++ (decimal r.block ++ (codes " " ++ decimal r.byte))))))) };
 
     fn fmt<W: fmt::Write>(&self, f: &mut fmt::Formatter<W>) -> fmt::Result {
-        let code = self.code;
-        let layer = self.layer;
-        let block = self.block;
-        let byte = self.byte;
+        let Refusal {
+            code,
+            layer,
+            block,
+            byte,
+        } = *self;
         write!(f, "refused {code} {layer} {block} {byte}")
     }
 }

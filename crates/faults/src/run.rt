@@ -30,12 +30,17 @@ impl RunFault {
     pub fn told(&self) -> Refusal
         ensures { result ≡ run_told self.now }
     {
-        let layer = Layer::Run;
-        match *self {
-            RunFault::Record(fault) => fault.told(),
-            RunFault::Memory => Refusal::at(10, layer, 0, 0),
-            RunFault::Worker => Refusal::at(11, layer, 0, 0),
-            RunFault::Board => Refusal::at(12, layer, 0, 0),
+        let code = match *self {
+            RunFault::Record(fault) => return fault.told(),
+            RunFault::Memory => 10,
+            RunFault::Worker => 11,
+            RunFault::Board => 12,
+        };
+        Refusal {
+            code,
+            layer: Layer::Run,
+            block: 0,
+            byte: 0,
         }
     }
 }

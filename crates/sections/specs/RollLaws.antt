@@ -1,11 +1,12 @@
 -- The laws of the roll section: sums and products may be taken modulo 2 ^ 32 on the way.
-use Rattle.std.specs.Prelude.{◌≡◌, ℕ, ◌+◌, ◌*◌, ◌/◌, ◌%◌, ◌^◌, ◌<◌, refl}
-use Rattle.std.proofs.Common.{sym, ap, ◌∙◌, add-mul, mod-eq_of_lt, mod-lt, mul-add, mul_assoc, mul_comm, mul_right_comm, arith}
-use Rattle.std.proofs.Math.Nat.{add-mod, add-mul-mod_self_right, mod-add-div', mod-mod}
-use Rattle.std.proofs.lemmas.Bool.{and_from, and_parts, lt-ltb, ltb-true}
-use Rattle.sections.specs.Roll.{joined, moved, read_map, read_state, rest, roll}
+use Rattle.std.specs.Prelude.{◌≡◌, ℕ, ◌+◌, ◌*◌, ◌%◌, ◌^◌, ◌<◌, refl}
+use Rattle.std.proofs.Common.{sym, ap, ◌∙◌, mod-eq_of_lt, mod-lt, arith}
+use Rattle.std.proofs.Math.Nat.{add-mod-mod, mod-add-mod}
+use Rattle.std.proofs.lemmas.Bool.Decides.{Decides-and, Decides-ltb}
+use Rattle.std.proofs.lemmas.Nat.{mul-mod_first, mul-mod_second}
+use Rattle.sections.specs.Roll.{joined, moved, of_words, roll}
 use Rattle.sections.specs.declared.roll.RollMap.{RollMap}
-use Rattle.sections.specs.Lawful.{Kept, Sound, kept}
+use Rattle.sections.specs.Lawful.{Sound}
 
 -- a word
 abbrev Word : ℕ → Type 0
@@ -15,70 +16,35 @@ Word x = x < 2 ^ 32
 abbrev Words : RollMap → Type 0
 Words f = Word f.factor × Word f.add
 
--- states are read by their range test
-states : Kept Word read_state
-states = kept Word _ 0 (λ s. ltb-true s (2 ^ 32)) (λ s. lt-ltb s (2 ^ 32)) (omega arith)
+-- the factor of a map may be taken modulo n first
+affine_mod : (a b s n : ℕ) → (a % n * s + b) % n ≡ (a * s + b) % n
+affine_mod a b s n = sym (mod-add-mod (a % n * s) n b) ∙ ap (λ x. (x + b) % n) (mul-mod_first a s n) ∙ mod-add-mod (a * s) n b
 
--- maps are read by theirs
-maps : Kept Words read_map
-maps = kept Words _ rest
-    (λ f e. let both = and_parts _ _ e in (ltb-true _ _ both.0, ltb-true _ _ both.1))
-    (λ f h. and_from _ _ (lt-ltb _ _ h.0) (lt-ltb _ _ h.1))
-    (omega arith, omega arith)
-
--- a factor may be taken modulo n first
-mul_mod : (a b n : ℕ) → (a % n * b) % n ≡ (a * b) % n
-mul_mod a b n =
-    let split : a * b ≡ a % n * b + a / n * b * n =
-    ap (λ x. x * b) (sym (mod-add-div' a n)) ∙ add-mul (a % n) (a / n * n) b ∙ ap (λ x. a % n * b + x) (mul_right_comm (a / n) n b)
-    in
-    sym (ap (λ x. x % n) split ∙ add-mul-mod_self_right (a % n * b) (a / n * b) n)
-
--- so may the factor and the summand of a map
-affine_mod : (a b s n : ℕ) → (a % n * s + b % n) % n ≡ (a * s + b) % n
-affine_mod a b s n =
-    add-mod (a % n * s) (b % n) n
-    ∙ (λ i. (mul_mod a s n i + mod-mod b n i) % n)
-    ∙ sym (add-mod (a * s) b n)
-
--- and the state that a map is applied to
+-- and so may the state that a map is applied to
 affine_of_mod : (a b s n : ℕ) → (a * (s % n) + b) % n ≡ (a * s + b) % n
-affine_of_mod a b s n =
-    add-mod (a * (s % n)) b n
-    ∙ ap (λ x. (x + b % n) % n) (ap (λ x. x % n) (mul_comm a (s % n)) ∙ mul_mod s a n ∙ ap (λ x. x % n) (mul_comm s a))
-    ∙ sym (add-mod (a * s) b n)
-
--- two maps in turn, before the modulus
-affine_twice : (m1 b1 m2 b2 s : ℕ) → m1 * m2 * s + (m2 * b1 + b2) ≡ m2 * (m1 * s + b1) + b2
-affine_twice m1 b1 m2 b2 s =
-    let factor : m1 * m2 * s ≡ m2 * (m1 * s) = ap (λ x. x * s) (mul_comm m1 m2) ∙ mul_assoc m2 m1 s in
-    omega (arith, factor, mul-add m2 (m1 * s) b1)
+affine_of_mod a b s n = sym (mod-add-mod (a * (s % n)) n b) ∙ ap (λ x. (x + b) % n) (mul-mod_second a s n) ∙ mod-add-mod (a * s) n b
 
 -- so the join of two maps does what they do in turn
 joined_moved : (f g : RollMap) (s : ℕ) → moved (joined f g) s ≡ moved g (moved f s)
-joined_moved f g s =
-    affine_mod (f.factor * g.factor) (g.factor * f.add + g.add) s (2 ^ 32)
-    ∙ ap (λ x. x % 2 ^ 32) (affine_twice f.factor f.add g.factor g.add s)
-    ∙ sym (affine_of_mod g.factor g.add (f.factor * s + f.add) (2 ^ 32))
+joined_moved f g s = grind (arith, add-mod-mod, affine_mod, affine_of_mod)
 
 -- what is taken modulo 2 ^ 32 is a word
 word_mod : (n : ℕ) → Word (n % 2 ^ 32)
 word_mod n = mod-lt n (omega arith)
 
 -- what the laws follow from
-pub sound : Sound roll Word Words read_map moved joined (λ s. s)
+pub sound : Sound roll Word Words of_words moved joined (λ s. s)
 sound = record {
-  states = states;
-  tested = λ s. lt-ltb s (2 ^ 32);
-  zero_in = omega arith;
-  maps = maps;
+  states = λ s. Decides-ltb s (2 ^ 32);
+  zero_in = refl;
+  maps = λ f. Decides-and _ _ (Decides-ltb f.factor (2 ^ 32)) (Decides-ltb f.add (2 ^ 32));
+  rest_in = refl;
   effect_is = λ f s. refl;
   join_is = λ f g. refl;
   shown_is = λ s. refl;
   moved_in = λ f s _ _. word_mod (f.factor * s + f.add);
   joined_in = λ f g _ _. (word_mod (f.factor * g.factor), word_mod (g.factor * f.add + g.add));
   joined_moved = λ f g s _ _ _. joined_moved f g s;
-  rest_in = (omega arith, omega arith);
   rest_moved = λ s below. ap (λ x. x % 2 ^ 32) (omega arith) ∙ mod-eq_of_lt below;
   word_in = λ p x below. (p.fits, below);
   word_moved = λ p x s _. refl;

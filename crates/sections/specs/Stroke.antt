@@ -49,7 +49,7 @@ word p x = stroke_map (to_z w32 x) p.lower p.upper
 
 -- the numbers of a map that is known to be in range
 abbrev pub numbers : Checked → StrokeMap
-numbers m = stroke_map m.add m.low m.high
+numbers m = stroke_map m.add m.stops.lower m.stops.upper
 
 -- a map (a, l, h) takes s to min(h, max(l, s + a))
 abbrev pub moved : StrokeMap → ℤ → ℤ

@@ -1,6 +1,7 @@
 // The thrust envelope: the largest signed word so far, less a decay for each sample since.
-ghost use Rattle.std.specs.Prelude.{◌^◌, ◌<◌};
+ghost use Rattle.std.specs.Prelude.{◌^◌, ◌<◌, pos, neg_ℤ, ◌≤ℤ◌};
 
+mod reading;
 mod section;
 
 // The section: the next state is the larger of the word and the state less the decay.
@@ -18,4 +19,12 @@ pub struct Decay {
 pub struct EnvelopeMap {
     pub fall: i64,
     pub floor: i32,
+}
+
+// A map whose fall is in range, so that its join and its effect need no test. Its floor is in range by its type.
+#[derive(Clone, Copy)]
+struct Checked {
+    map: EnvelopeMap,
+    ghost fall_from: { neg_ℤ (pos (2 ^ 32)) ≤ℤ map.fall },
+    ghost fall_to: { map.fall ≤ℤ pos 0 },
 }

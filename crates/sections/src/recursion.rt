@@ -10,16 +10,7 @@ pub fn run<S: Section>(params: S::Params, start: S::State, samples: &mut [u32])
 {
     let mut state = start;
     for sample in samples.iter_mut() {
-        state = advance::<S>(params, state, sample);
+        state = S::next(params, state, *sample);
+        *sample = S::shown(state);
     }
-}
-
-// One sample: answers the next state, whose word takes the sample's place.
-fn advance<S: Section>(params: S::Params, state: S::State, sample: &mut u32) -> S::State
-    ensures value { result ≡ S.Section.meaning.next params state sample.old }
-    ensures after { sample.new ≡ S.Section.meaning.shown result }
-{
-    let next = S::next(params, state, *sample);
-    *sample = S::shown(next);
-    next
 }

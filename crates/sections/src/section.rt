@@ -1,5 +1,5 @@
 // What a section is: states, maps and parameters of its own, the operations on them, and what they mean.
-ghost use Rattle.std.specs.Prelude.{◌≡◌};
+ghost use Rattle.std.specs.Prelude.{◌≡◌, Bool};
 ghost use Rattle.sections.specs.Meaning.{Laws, Meaning, Reading, number_of};
 
 // A recursive section. States and maps are kept as plain numbers, and every number is legal: one out of range is read
@@ -12,6 +12,8 @@ pub trait Section {
     type Params: Copy;
     // whether the section's words are read signed
     const SIGNED: bool;
+
+    ghost SIGNED: { Bool };
 
     // the recursion, the maps and their effects, and the word that a state shows, in plain arithmetic
     ghost meaning: { Meaning Self.Params Self.State Self.Map };
@@ -40,9 +42,15 @@ pub trait Section {
     fn shown(state: Self::State) -> u32
         ensures { result ≡ meaning.shown state };
 
-    // Whether words are read signed, as SIGNED says.
-    fn is_signed() -> bool
-        ensures { result ≡ meaning.signed };
+    // Whether words are read signed.
+    final fn is_signed() -> bool
+        ensures { result ≡ meaning.signed }
+    {
+        Self::SIGNED
+    }
+
+    // the constant says what the meaning does
+    ghost signed: { SIGNED ≡ meaning.signed };
 
     // the three laws: rest, join and word
     ghost laws: { Laws meaning };

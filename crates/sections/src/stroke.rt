@@ -30,15 +30,11 @@ pub struct StrokeMap {
     pub high: i32,
 }
 
-// A map whose numbers are in range, so that its join and its effect need no test.
+// A map whose numbers are in range, so that its join and its effect need no test: its bounds are stops.
 #[derive(Clone, Copy)]
 struct Checked {
     add: i64,
-    low: i32,
-    high: i32,
+    stops: Stops,
     ghost add_from: { neg_ℤ (pos (2 ^ 31)) ≤ℤ add },
     ghost add_to: { add ≤ℤ pos (2 ^ 31) },
-    ghost low_from: { neg_ℤ (pos (2 ^ 30)) ≤ℤ low },
-    ghost low_to: { low ≤ℤ high },
-    ghost high_to: { high ≤ℤ pos (2 ^ 30) },
 }

@@ -1,18 +1,16 @@
 // The envelope's calls.
-ghost use Rattle.std.specs.Prelude.{◌≡◌, ◌^◌, pos, neg_ℤ, ◌≤ℤ◌};
-ghost use Rattle.sections.specs.Envelope.{decay_fault, envelope, moved, read_map};
+ghost use Rattle.std.specs.Prelude.{◌≡◌, refl};
+ghost use Rattle.sections.specs.Envelope.{decay_fault, envelope};
 ghost use Rattle.sections.specs.Made.{Made};
 ghost use Rattle.sections.specs.Lawful;
 ghost use Rattle.sections.specs.EnvelopeLaws.{sound};
 
-use crate::envelope::{Decay, Envelope, EnvelopeMap};
+use crate::envelope::{Checked, Decay, Envelope, EnvelopeMap};
 use crate::section::Section;
 use faults::{RecordFault, Value};
 
-// The first decay that is too large, and the deepest fall of a map.
+// The first decay that is too large.
 const DECAY_LIMIT: u32 = 2_147_483_648;
-
-const DEEPEST: i64 = -4_294_967_296;
 
 impl Decay {
     // The decay, or its fault where it is 2^31 or more.
@@ -32,31 +30,6 @@ impl Decay {
     }
 }
 
-// The map that kept numbers stand for: themselves in range, else rest. Its floor is in range by its type.
-fn read_map(map: EnvelopeMap) -> EnvelopeMap
-    ensures value { result ≡ read_map map }
-    ensures from { neg_ℤ (pos (2 ^ 32)) ≤ℤ result.fall }
-    ensures to { result.fall ≤ℤ pos 0 }
-{
-    if map.fall >= DEEPEST && map.fall <= 0 {
-        map
-    } else {
-        EnvelopeMap {
-            fall: 0,
-            floor: i32::MIN,
-        }
-    }
-}
-
-// The state that a map in range takes `state` to.
-fn moved(map: EnvelopeMap, state: i32) -> i32
-    requires from { neg_ℤ (pos (2 ^ 32)) ≤ℤ map.fall }
-    requires to { map.fall ≤ℤ pos 0 }
-    ensures { result ≡ moved map state }
-{
-    (state as i64 + map.fall).max(map.floor as i64) as i32
-}
-
 impl Section for Envelope {
     type State = i32;
 
@@ -66,21 +39,22 @@ impl Section for Envelope {
 
     const SIGNED: bool = true;
 
+    ghost SIGNED = { envelope.signed };
+
     ghost meaning = { envelope };
 
-    ghost laws = { Lawful.laws _ _ _ sound };
+    ghost signed = { refl };
 
-    ghost reading = { Lawful.reading _ _ _ sound };
+    ghost laws = { Lawful.laws _ _ _ _ sound };
+
+    ghost reading = { Lawful.reading _ _ _ _ sound };
 
     fn next(params: Decay, state: i32, word: u32) -> i32 {
         (word.cast_signed() as i64).max(state as i64 - params.value as i64) as i32
     }
 
     fn rest() -> EnvelopeMap {
-        EnvelopeMap {
-            fall: 0,
-            floor: i32::MIN,
-        }
+        Checked::rest().into()
     }
 
     fn word_map(params: Decay, word: u32) -> EnvelopeMap {
@@ -91,24 +65,14 @@ impl Section for Envelope {
     }
 
     fn join(first: EnvelopeMap, second: EnvelopeMap) -> EnvelopeMap {
-        let first = read_map(first);
-        let second = read_map(second);
-        let fall = DEEPEST.max(first.fall + second.fall);
-        EnvelopeMap {
-            fall,
-            floor: moved(second, first.floor),
-        }
+        Checked::read(first).join(Checked::read(second)).into()
     }
 
     fn effect(map: EnvelopeMap, state: i32) -> i32 {
-        moved(read_map(map), state)
+        Checked::read(map).moved(state)
     }
 
     fn shown(state: i32) -> u32 {
         state.cast_unsigned()
-    }
-
-    fn is_signed() -> bool {
-        Self::SIGNED
     }
 }

@@ -1,6 +1,6 @@
 // The roll section's calls.
-ghost use Rattle.std.specs.Prelude.{◌≡◌};
-ghost use Rattle.sections.specs.Roll.{roll};
+ghost use Rattle.std.specs.Prelude.{◌≡◌, refl};
+ghost use Rattle.sections.specs.Roll.{moved, roll};
 ghost use Rattle.sections.specs.Lawful;
 ghost use Rattle.sections.specs.RollLaws.{sound};
 
@@ -21,6 +21,15 @@ impl Coefficient {
     }
 }
 
+impl RollMap {
+    // The state that the map takes `state` to.
+    fn moved(self, state: u32) -> u32
+        ensures { result ≡ moved self state }
+    {
+        self.factor.wrapping_mul(state).wrapping_add(self.add)
+    }
+}
+
 impl Section for Roll {
     type State = u32;
 
@@ -30,11 +39,15 @@ impl Section for Roll {
 
     const SIGNED: bool = false;
 
+    ghost SIGNED = { roll.signed };
+
     ghost meaning = { roll };
 
-    ghost laws = { Lawful.laws _ _ _ sound };
+    ghost signed = { refl };
 
-    ghost reading = { Lawful.reading _ _ _ sound };
+    ghost laws = { Lawful.laws _ _ _ _ sound };
+
+    ghost reading = { Lawful.reading _ _ _ _ sound };
 
     fn next(params: Coefficient, state: u32, word: u32) -> u32 {
         params.value.wrapping_mul(state).wrapping_add(word)
@@ -52,23 +65,17 @@ impl Section for Roll {
     }
 
     fn join(first: RollMap, second: RollMap) -> RollMap {
-        let factor = first.factor.wrapping_mul(second.factor);
-        let add = second
-            .factor
-            .wrapping_mul(first.add)
-            .wrapping_add(second.add);
-        RollMap { factor, add }
+        RollMap {
+            factor: first.factor.wrapping_mul(second.factor),
+            add: second.moved(first.add),
+        }
     }
 
     fn effect(map: RollMap, state: u32) -> u32 {
-        map.factor.wrapping_mul(state).wrapping_add(map.add)
+        map.moved(state)
     }
 
     fn shown(state: u32) -> u32 {
         state
-    }
-
-    fn is_signed() -> bool {
-        Self::SIGNED
     }
 }

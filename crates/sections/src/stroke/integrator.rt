@@ -1,12 +1,12 @@
 // The stroke integrator's calls.
-ghost use Rattle.std.specs.Prelude.{◌≡◌};
+ghost use Rattle.std.specs.Prelude.{◌≡◌, refl};
 ghost use Rattle.sections.specs.Stroke.{stroke};
 ghost use Rattle.sections.specs.Lawful;
 ghost use Rattle.sections.specs.StrokeLaws.{sound};
 
 use crate::section::Section;
-use crate::stroke::reading::{position, read_state};
-use crate::stroke::{Checked, REACH, Stops, Stroke, StrokeMap};
+use crate::stroke::reading::read_state;
+use crate::stroke::{Checked, Stops, Stroke, StrokeMap};
 
 impl Section for Stroke {
     type State = i32;
@@ -17,26 +17,22 @@ impl Section for Stroke {
 
     const SIGNED: bool = true;
 
+    ghost SIGNED = { stroke.signed };
+
     ghost meaning = { stroke };
 
-    ghost laws = { Lawful.laws _ _ _ sound };
+    ghost signed = { refl };
 
-    ghost reading = { Lawful.reading _ _ _ sound };
+    ghost laws = { Lawful.laws _ _ _ _ sound };
+
+    ghost reading = { Lawful.reading _ _ _ _ sound };
 
     fn next(params: Stops, state: i32, word: u32) -> i32 {
-        position(
-            params.lower,
-            params.upper,
-            read_state(state) as i64 + word.cast_signed() as i64,
-        )
+        params.hold(read_state(state) as i64 + word.cast_signed() as i64)
     }
 
     fn rest() -> StrokeMap {
-        StrokeMap {
-            add: 0,
-            low: -REACH,
-            high: REACH,
-        }
+        Checked::rest().into()
     }
 
     fn word_map(params: Stops, word: u32) -> StrokeMap {
@@ -48,7 +44,7 @@ impl Section for Stroke {
     }
 
     fn join(first: StrokeMap, second: StrokeMap) -> StrokeMap {
-        Checked::read(first).join(Checked::read(second)).kept()
+        Checked::read(first).join(Checked::read(second)).into()
     }
 
     fn effect(map: StrokeMap, state: i32) -> i32 {
@@ -57,9 +53,5 @@ impl Section for Stroke {
 
     fn shown(state: i32) -> u32 {
         read_state(state).cast_unsigned()
-    }
-
-    fn is_signed() -> bool {
-        Self::SIGNED
     }
 }

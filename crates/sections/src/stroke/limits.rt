@@ -1,5 +1,6 @@
-// Making and reading the stops.
+// Making and reading the stops, and what is held between them.
 ghost use Rattle.std.specs.Prelude.{◌≡◌};
+ghost use Rattle.sections.specs.Range.{held};
 ghost use Rattle.sections.specs.Made.{Made};
 ghost use Rattle.sections.specs.Stroke.{stops_fault};
 
@@ -11,10 +12,10 @@ impl Stops {
     pub fn new(lower: i32, upper: i32) -> Result<Stops, RecordFault>
         ensures { Made (stops_fault lower upper) result (λ s. (s.lower ≡ lower) × (s.upper ≡ upper)) }
     {
-        if lower < -REACH || lower > REACH {
+        if !(-REACH..=REACH).contains(&lower) {
             return Err(RecordFault::Value(Value::First));
         }
-        if upper < lower || upper > REACH {
+        if !(lower..=REACH).contains(&upper) {
             return Err(RecordFault::Value(Value::Second));
         }
         Ok(Stops { lower, upper })
@@ -30,5 +31,12 @@ impl Stops {
         ensures { result ≡ self.now.upper }
     {
         self.upper
+    }
+
+    // The position that `value` is held to between the stops.
+    pub(crate) fn hold(self, value: i64) -> i32
+        ensures { result ≡ held self.lower self.upper value }
+    {
+        value.clamp(self.lower as i64, self.upper as i64) as i32
     }
 }

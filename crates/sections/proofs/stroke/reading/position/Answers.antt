@@ -1,9 +1,0 @@
-use Rattle.std.proofs.Common.{arith}
-use Rattle.std.proofs.lemmas.Int.{clamps, ints}
-use Rattle.sections.proofs.stroke.reading.position.Goals as goal
-
-pub overflow_cast-result : goal.overflow_cast-result
-overflow_cast-result c = omega (arith, ints, clamps)
-
-pub returns : goal.returns
-returns c = omega (arith, ints, clamps)
