@@ -1,16 +1,15 @@
 -- Records in range with the same file are the same record.
-use Rattle.std.proofs.Common.{◌≡◌, ℕ, ◌+◌, ◌^◌, ◌<◌, List, [], ◌∷◌, length, get_or, take, drop, sym, ap, ◌∙◌, arith}
-use Rattle.std.specs.List.{AllByRecursion}
-use Rattle.std.proofs.ByRecursion.{All-weaker}
-use Rattle.drivefile.specs.Bytes.{block_at, bytes4, le32}
+use Rattle.std.proofs.Common.{◌≡◌, ℕ, ◌+◌, ◌<◌, [], ◌∷◌, length, get_or, drop, sym, ap, ◌∙◌, arith}
+use Rattle.drivefile.specs.Bytes.{block_at}
 use Rattle.drivefile.specs.Header.{blocks_for}
 use Rattle.drivefile.specs.Record.{DriveRecord, RecordRange}
-use Rattle.drivefile.specs.File.{file_of, header_payload, items_block, value_words}
+use Rattle.drivefile.specs.File.{file_of, header_payload, items_block}
 use Rattle.drivefile.proofs.Codings.{byte, word, written_same}
 use Rattle.drivefile.proofs.Items.{all_same}
-use Rattle.drivefile.proofs.Numbered.{block_file, block_first, block_of, block_sample, block_turn, blocks, header_block, length_header_payload, length_values, sample_blocks, turn_blocks}
-use Rattle.drivefile.proofs.Sealed.{payload_sealed}
-use Rattle.drivefile.proofs.SectionWords.{network_same, section_same, value_fit}
+use Rattle.drivefile.proofs.Numbered.{block_file, block_first, block_of, block_sample, block_turn, blocks, length_header_payload, length_values, sample_blocks}
+use Rattle.drivefile.proofs.Sealed.{same_payload}
+use Rattle.drivefile.proofs.SectionWords.{network_same, numbers, numbers_fit, section_same, turn_bytes}
+use Rattle.drivefile.specs.declared.block.Kind.TheVariants as block_kind
 
 module _ (r s : DriveRecord) (p : RecordRange r) (q : RecordRange s) (same : file_of r ≡ file_of s) where
   -- a block of both files
@@ -19,24 +18,13 @@ module _ (r s : DriveRecord) (p : RecordRange r) (q : RecordRange s) (same : fil
 
   payload_same : header_payload r ≡ header_payload s
   payload_same =
-      let e : header_block r ≡ header_block s = sym (block_first r) ∙ block_same 0 (omega arith) (omega arith) ∙ block_first s in
       let m = length_header_payload r in
       let n = length_header_payload s in
-      let long : length (header_payload r) ≡ length (header_payload s) = m ∙ sym n in
-      sym (payload_sealed 1 0 0 (header_payload r) (omega (arith, m)))
-      ∙ (λ i. take (long i) (drop 8 (e i)))
-      ∙ payload_sealed 1 0 0 (header_payload s) (omega (arith, n))
-
-  -- the numbers of samples and turns, and the section's values
-  abbrev numbers : DriveRecord → List ℕ
-  numbers t = length t.samples ∷ length t.turns ∷ value_words t.section
-
-  fit : (t : DriveRecord) → RecordRange t → AllByRecursion (λ x. x < 2 ^ 32) (numbers t)
-  fit t h = (let l = h.samples_to in omega arith, (let l = h.turns_to in omega arith, value_fit t.section h.section_values))
+      same_payload 1 0 0 0 (header_payload r) (header_payload s) (omega (arith, m)) (omega (arith, m, n)) (sym (block_first r) ∙ block_same 0 (omega arith) (omega arith) ∙ block_first s)
 
   numbers_same : numbers r ≡ numbers s
   numbers_same =
-      written_same 4 (2 ^ 32) le32 bytes4 word (numbers r) (numbers s) (fit r p) (fit s q)
+      written_same word (numbers r) (numbers s) (numbers_fit r p) (numbers_fit s q)
       (omega (arith, length_values r.section, length_values s.section))
       (ap (drop 4) payload_same)
 
@@ -48,17 +36,14 @@ module _ (r s : DriveRecord) (p : RecordRange r) (q : RecordRange s) (same : fil
 
   samples_same : r.samples ≡ s.samples
   samples_same =
-      let n : sample_blocks r ≡ sample_blocks s = ap (λ k. blocks_for k 125) samples_count in
-      all_same 4 (2 ^ 32) le32 bytes4 word 2 125 1 (omega arith) r.samples s.samples (omega arith) p.sample_words q.sample_words samples_count
-      (λ b l m. sym (block_sample r b l (omega arith)) ∙ block_same b (omega arith) (omega (arith, n)) ∙ block_sample s b l (omega (arith, n)))
+      all_same word block_kind.Samples 125 1 (omega arith) r.samples s.samples (omega arith) p.sample_words q.sample_words samples_count
+      (λ b l m. sym (block_sample r b l (omega arith)) ∙ block_same b (omega arith) (omega (arith, samples_count)) ∙ block_sample s b l (omega (arith, samples_count)))
 
   turns_same : r.turns ≡ s.turns
   turns_same =
       let n : sample_blocks r ≡ sample_blocks s = ap (λ k. blocks_for k 125) samples_count in
-      let t : turn_blocks r ≡ turn_blocks s = ap (λ k. blocks_for k 500) turns_count in
-      let bytes : (d : DriveRecord) → RecordRange d → AllByRecursion (λ x. x < 256) d.turns = λ d h. All-weaker _ (λ x. x < 256) (λ x l. let w = h.workers_to in omega arith) d.turns h.turn_workers in
-      all_same 1 256 (λ bs i. get_or bs i 0) (λ w. w ∷ []) byte 3 500 (1 + sample_blocks r) (omega arith) r.turns s.turns (omega arith) (bytes r p) (bytes s q) turns_count
-      (λ b l m. sym (block_turn r b l) ∙ block_same b (omega arith) (omega (arith, n, t)) ∙ block_turn s b (omega (arith, n)) ∙ (λ i. items_block 3 500 (λ w. w ∷ []) (1 + sym n i) s.turns b))
+      all_same byte block_kind.Turns 500 (1 + sample_blocks r) (omega arith) r.turns s.turns (omega arith) (turn_bytes r p) (turn_bytes s q) turns_count
+      (λ b l m. sym (block_turn r b l) ∙ block_same b (omega arith) (omega (arith, n, turns_count)) ∙ block_turn s b (omega (arith, n)) ∙ (λ i. items_block 3 500 (λ w. w ∷ []) (1 + sym n i) s.turns b))
 
   pub same_record : r ≡ s
   same_record = λ i. record {

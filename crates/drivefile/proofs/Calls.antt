@@ -1,28 +1,47 @@
--- What a record's calls give by its header's counts is what they give by the record.
-use Rattle.std.proofs.Common.{◌≡◌, ℕ, cond, ltb, List, get_or, Some, None, sym, ap, ◌∙◌, ⊎_elim, arith}
-use Rattle.std.proofs.lemmas.List.FromFn.{get_or-map-range_with_len}
-use Rattle.std.proofs.lemmas.Bool.{cases_Bool, cond-false, cond-true, ltb-true}
-use Rattle.drivefile.specs.Items.{put_front, room_for, samples_of, turn_at, turn_place, turns_of}
-use Rattle.drivefile.specs.Record.{copied_record, copying_record, recorded, turn_of}
+-- What a record's calls read in the blocks is what its definitions read in the file; and what they give by its header's
+-- counts is what they give by the record.
+use Rattle.std.proofs.Common.{◌≡◌, ℕ, ◌+◌, ◌*◌, ◌/◌, ◌%◌, ◌<◌, ◌≤◌, List, [], length, take, drop, get_or, sym, ap, ◌∙◌, arith}
+use Rattle.std.specs.Simd.{first_chunks}
+use Rattle.std.proofs.lemmas.List.{get_or-drop, get_or-take}
+use Rattle.std.proofs.lemmas.List.FromFn.{fill_by_all, get_or-map-range_with_len, length-map-range_with_len}
+use Rattle.std.proofs.lemmas.Bool.Decides.{nat_tests}
+use Rattle.drivefile.specs.Bytes.{le32}
+use Rattle.drivefile.specs.Header.{blocks_for}
+use Rattle.drivefile.specs.Items.{copied, put_front, sample_at, sample_in, samples_in, samples_of, turn_at}
+use Rattle.drivefile.specs.Record.{copied_record, recorded, turn_of}
 use Rattle.drivefile.specs.declared.header.Header.{Header}
-use Rattle.drivefile.proofs.Exact.{samples_length, turns_length}
+use Rattle.drivefile.proofs.Blocks.{block_is, count_is}
+
+module _ (file : List ℕ) (blocks : List (List ℕ)) (is : blocks ≡ first_chunks 512 (length file / 512) file) where
+  -- byte i of block b
+  pub byte_is : (b i p : ℕ) → b < length blocks → i < 512 → 512 * b + i ≡ p → get_or (get_or blocks b []) i 0 ≡ get_or file p 0
+  byte_is b i p inside less place =
+      ap (λ bs. get_or bs i 0) (block_is file blocks is b [] (omega (arith, inside, count_is file blocks is)))
+      ∙ get_or-take 512 (drop (512 * b) file) i 0 less
+      ∙ get_or-drop (512 * b) file i 0
+      ∙ ap (λ k. get_or file k 0) place
+
+  -- the word there
+  word_is : (b i p : ℕ) → b < length blocks → i + 4 ≤ 512 → 512 * b + i ≡ p → le32 (get_or blocks b []) i ≡ le32 file p
+  word_is b i p inside less place =
+      let byte = λ (k : ℕ) (l : k < 4). byte_is b (i + k) (p + k) inside (omega arith) (omega arith) in
+      λ j. byte_is b i p inside (omega arith) place j + 256 * byte 1 (omega arith) j + 65536 * byte 2 (omega arith) j + 16777216 * byte 3 (omega arith) j
+
+  -- n samples, from the blocks that hold them
+  pub samples_are : (n : ℕ) → 1 + blocks_for n 125 ≤ length blocks → samples_in (take (blocks_for n 125) (drop 1 blocks)) n ≡ samples_of file n
+  samples_are n enough =
+      let part = take (blocks_for n 125) (drop 1 blocks) in
+      fill_by_all (sample_at file) (samples_in part n) n 0 (length-map-range_with_len (sample_in part) 0 n) (λ i less.
+      get_or-map-range_with_len (sample_in part) 0 n i i 0 less (omega arith)
+      ∙ ap (λ bs. le32 bs (8 + 4 * (i % 125))) (get_or-take (blocks_for n 125) (drop 1 blocks) (i / 125) [] (omega arith) ∙ get_or-drop 1 blocks (i / 125) [])
+      ∙ word_is (1 + i / 125) (8 + 4 * (i % 125)) _ (omega arith) (omega arith) (omega arith))
+
+-- a record's lists have as many items as its header counts
+pub ruleset counts = (nat_tests, length-map-range_with_len)
 
 module _ (file : List ℕ) (h : Header) where
-  pub same_copying : (out : List ℕ) → room_for h.samples out ≡ copying_record (recorded file h) out
-  same_copying out = ap (λ n. room_for n out) (sym (samples_length file h))
+  pub same_copied : (out : List ℕ) → copied h file out ≡ copied_record (recorded file h) out
+  same_copied out = ap (λ n. put_front n (samples_of file h.samples) out) (sym (length-map-range_with_len (sample_at file) 0 h.samples))
 
-  pub same_copied : (out : List ℕ) → put_front h.samples (samples_of file h.samples) out ≡ copied_record (recorded file h) out
-  same_copied out = ap (λ n. put_front n (samples_of file h.samples) out) (sym (samples_length file h))
-
-  -- a turn that is counted is that of the list
   pub same_turn : (i : ℕ) → turn_at file h i ≡ turn_of (recorded file h) i
-  same_turn i =
-      let turns = turns_of file h.samples h.turns in
-      let here = get_or file (turn_place h.samples i) 0 in
-      ⊎_elim
-      (λ e. cond-true (ltb i h.turns) (Some here) None e
-      ∙ ap Some (sym (get_or-map-range_with_len (λ j. get_or file (turn_place h.samples j) 0) 0 h.turns i i 0 (ltb-true i h.turns e) (omega arith)))
-      ∙ sym (cond-true (ltb i h.turns) (Some (get_or turns i 0)) None e))
-      (λ e. cond-false (ltb i h.turns) (Some here) None e ∙ sym (cond-false (ltb i h.turns) (Some (get_or turns i 0)) None e))
-      (cases_Bool (ltb i h.turns))
-      ∙ ap (λ n. cond (ltb i n) (Some (get_or turns i 0)) None) (sym (turns_length file h))
+  same_turn i = grind (arith, counts, get_or-map-range_with_len)

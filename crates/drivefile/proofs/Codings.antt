@@ -1,59 +1,37 @@
 -- Numbers as bytes and back, over the width: words of four bytes, turns of one.
-use Rattle.std.proofs.Common.{◌≡◌, ℕ, zero, suc, ◌+◌, ◌*◌, ◌/◌, ◌%◌, ◌^◌, ◌<◌, ◌≤◌, List, [], ◌∷◌, ◌++◌, map, length, get_or, drop, sym, refl, ap, ◌∙◌, arith}
+use Rattle.std.proofs.Common.{◌≡◌, ℕ, zero, suc, ◌+◌, ◌*◌, ◌^◌, ◌<◌, ◌≤◌, List, [], ◌∷◌, ◌++◌, map, length, get_or, take, drop, ⊎_elim, sym, refl, ap, ◌∙◌, w16, w32, arith}
 use Rattle.std.specs.List.{range_with_len, flat_map, AllByRecursion}
-use Rattle.std.proofs.lemmas.Nat.{div-add-mod', div-mul-add, mod_below, mod-mul-add}
-use Rattle.std.proofs.ByRecursion.{All-append}
-use Rattle.std.proofs.lemmas.List.{append_assoc, drop_at, drop_more, length-append}
+use Rattle.std.specs.Int.{from_le_bytes}
+use Rattle.std.proofs.lemmas.Nat.{from_le_bytes-to_le_bytes_4, le_bytes_2, le_bytes_4}
+use Rattle.std.proofs.ByRecursion.{All-get_or, All-weaker}
+use Rattle.std.proofs.lemmas.List.{append_assoc, drop_at, drop_more, get_or_past, length-append, places}
+use Rattle.std.proofs.lemmas.Simd.{chunk-drop, get_or-chunk, length-chunk}
+use Rattle.std.proofs.lemmas.Bool.{cases_lt}
 use Rattle.drivefile.specs.Bytes.{bytes2, bytes4, le16, le32}
-use Rattle.drivefile.proofs.Parts.{row_more}
+use Rattle.drivefile.proofs.Rows.{all_flat}
 
 -- every number of a list is a byte
 abbrev pub Bytes : List ℕ → Type 0
 Bytes bs = (i : ℕ) → get_or bs i 0 < 256
 
--- the digits of a number to a base
-pub low : (w n a b : ℕ) → b < w → n ≡ a * w + b → n % w ≡ b
-low w n a b h e = ap (λ k. k % w) e ∙ mod-mul-add a w b h
+pub all_bytes : (bs : List ℕ) → AllByRecursion (λ b. b < 256) bs → Bytes bs
+all_bytes bs h i = ⊎_elim (λ l. All-get_or (λ b. b < 256) bs i 0 l h) (λ l. grind (arith, get_or_past)) (cases_lt i (length bs))
 
-pub high : (w n a b : ℕ) → b < w → n ≡ a * w + b → n / w ≡ a
-high w n a b h e = ap (λ k. k / w) e ∙ div-mul-add a w b h
-
--- two bytes, and four, are those of the number that they make
-two : (x y : ℕ) → x < 256 → y < 256 → bytes2 (x + 256 * y) ≡ x ∷ y ∷ []
-two x y p q =
-    let n = x + 256 * y in
-    let a = low 256 n y x p (omega arith) in
-    let b = ap (λ k. k % 256) (high 256 n y x p (omega arith)) ∙ low 256 y 0 y q (omega arith) in
-    λ i. a i ∷ b i ∷ []
-
-four : (x y z t : ℕ) → x < 256 → y < 256 → z < 256 → t < 256 → bytes4 (x + 256 * y + 65536 * z + 16777216 * t) ≡ x ∷ y ∷ z ∷ t ∷ []
-four x y z t p q r s =
-    let n = x + 256 * y + 65536 * z + 16777216 * t in
-    let a = low 256 n (y + 256 * z + 65536 * t) x p (omega arith) in
-    let b = ap (λ k. k % 256) (high 256 n (y + 256 * z + 65536 * t) x p (omega arith)) ∙ low 256 _ (z + 256 * t) y q (omega arith) in
-    let c = ap (λ k. k % 256) (high 65536 n (z + 256 * t) (x + 256 * y) (omega arith) (omega arith)) ∙ low 256 _ t z r (omega arith) in
-    let d = ap (λ k. k % 256) (high 16777216 n t (x + 256 * y + 65536 * z) (omega arith) (omega arith)) ∙ low 256 t 0 t s (omega arith) in
-    λ i. a i ∷ b i ∷ c i ∷ d i ∷ []
+-- a part of a list of bytes is one
+pub bytes_part : (bs : List ℕ) (i n : ℕ) → Bytes bs → Bytes (take n (drop i bs))
+bytes_part bs i n fit k = ⊎_elim (λ l. grind (arith, places, fit)) (λ l. grind (arith, places, get_or_past)) (cases_lt k n)
 
 -- the bytes from a place on, two and four at a time
 pub taken2 : (bs : List ℕ) (i : ℕ) → Bytes bs → i + 2 ≤ length bs → drop i bs ≡ bytes2 (le16 bs i) ++ drop (i + 2) bs
 taken2 bs i fit le =
-    let e : i + 1 + 1 ≡ i + 2 = omega arith in
-    drop_more bs i 0 (omega arith)
-    ∙ ap (λ r. get_or bs i 0 ∷ r) (drop_more bs (i + 1) 0 (omega arith))
-    ∙ (λ k. get_or bs i 0 ∷ get_or bs (i + 1) 0 ∷ drop (e k) bs)
-    ∙ ap (λ r. r ++ drop (i + 2) bs) (sym (two _ _ (fit i) (fit (i + 1))))
+    let read : le16 bs i ≡ from_le_bytes w16 (take 2 (drop i bs)) = grind (arith, get_or-chunk i 2 bs 0 0 (omega arith), get_or-chunk i 2 bs 1 0 (omega arith)) in
+    chunk-drop i 2 bs ∙ ap (λ r. r ++ drop (i + 2) bs) (sym (le_bytes_2 (take 2 (drop i bs)) (le16 bs i) (length-chunk i 2 bs le) (bytes_part bs i 2 fit) read))
 
 pub taken4 : (bs : List ℕ) (i : ℕ) → Bytes bs → i + 4 ≤ length bs → drop i bs ≡ bytes4 (le32 bs i) ++ drop (i + 4) bs
 taken4 bs i fit le =
-    let e : i + 1 + 1 ≡ i + 2 = omega arith in
-    let f : i + 2 + 1 ≡ i + 3 = omega arith in
-    let g : i + 3 + 1 ≡ i + 4 = omega arith in
-    drop_more bs i 0 (omega arith)
-    ∙ ap (λ r. get_or bs i 0 ∷ r) (drop_more bs (i + 1) 0 (omega arith) ∙ (λ k. get_or bs (i + 1) 0 ∷ drop (e k) bs)
-    ∙ ap (λ r. get_or bs (i + 1) 0 ∷ r) (drop_more bs (i + 2) 0 (omega arith) ∙ (λ k. get_or bs (i + 2) 0 ∷ drop (f k) bs)
-    ∙ ap (λ r. get_or bs (i + 2) 0 ∷ r) (drop_more bs (i + 3) 0 (omega arith) ∙ (λ k. get_or bs (i + 3) 0 ∷ drop (g k) bs))))
-    ∙ ap (λ r. r ++ drop (i + 4) bs) (sym (four _ _ _ _ (fit i) (fit (i + 1)) (fit (i + 2)) (fit (i + 3))))
+    let at : (k : ℕ) → k < 4 → get_or (take 4 (drop i bs)) k 0 ≡ get_or bs (i + k) 0 = λ k l. get_or-chunk i 4 bs k 0 l in
+    let read : le32 bs i ≡ from_le_bytes w32 (take 4 (drop i bs)) = grind (arith, at 0 (omega arith), at 1 (omega arith), at 2 (omega arith), at 3 (omega arith)) in
+    chunk-drop i 4 bs ∙ ap (λ r. r ++ drop (i + 4) bs) (sym (le_bytes_4 (take 4 (drop i bs)) (le32 bs i) (length-chunk i 4 bs le) (bytes_part bs i 4 fit) read))
 
 -- how a number of `q` bytes is read and written: reading takes what was written, and writing tells numbers below `most` apart
 pub record Coding (q most : ℕ) (read : List ℕ → ℕ → ℕ) (write : ℕ → List ℕ) : Type 0 where
@@ -73,24 +51,8 @@ byte = record {
 }
 
 -- a number of four bytes is the one that they make
-pub whole : (n : ℕ) → n < 2 ^ 32 → n % 256 + 256 * (n / 256 % 256) + 65536 * (n / 65536 % 256) + 16777216 * (n / 16777216 % 256) ≡ n
-whole n h =
-    let a = n / 256 in
-    let b = a / 256 in
-    let c = b / 256 in
-    let d0 = div-add-mod' n 256 in
-    let d1 = div-add-mod' a 256 in
-    let d2 = div-add-mod' b 256 in
-    let m0 = mod_below n 256 (omega arith) in
-    let m1 = mod_below a 256 (omega arith) in
-    let m2 = mod_below b 256 (omega arith) in
-    let e : n / 65536 ≡ b = high 65536 n b (n % 256 + 256 * (a % 256)) (omega arith) (omega arith) in
-    let f : n / 16777216 ≡ c = high 16777216 n c (n % 256 + 256 * (a % 256) + 65536 * (b % 256)) (omega arith) (omega arith) in
-    let g : c % 256 ≡ c = low 256 c 0 c (omega arith) (omega arith) in
-    (λ i. n % 256 + 256 * (a % 256) + 65536 * (e i % 256) + 16777216 * (f i % 256)) ∙ omega arith
-
-pub byte_of : (n : ℕ) → n % 256 < 256
-byte_of n = mod_below n 256 (omega arith)
+pub whole : (n : ℕ) → n < 2 ^ 32 → le32 (bytes4 n) 0 ≡ n
+whole n h = omega (arith, from_le_bytes-to_le_bytes_4 n h)
 
 pub word : Coding 4 (2 ^ 32) le32 bytes4
 word = record {
@@ -98,27 +60,24 @@ word = record {
   taken = taken4;
   back = λ x rest h. whole x h;
   below = λ bs i fit. let a = fit i in let b = fit (i + 1) in let c = fit (i + 2) in let d = fit (i + 3) in omega arith;
-  fit = λ x h. (byte_of x, (byte_of (x / 256), (byte_of (x / 65536), (byte_of (x / 16777216), tt))));
+  fit = λ x h. search arith;
 }
 
-module _ (q most : ℕ) (read : List ℕ → ℕ → ℕ) (write : ℕ → List ℕ) (c : Coding q most read write) where
+module _ {q most : ℕ} {read : List ℕ → ℕ → ℕ} {write : ℕ → List ℕ} (c : Coding q most read write) where
   -- numbers written one after another, read at places that follow one another
   pub run_taken : (bs : List ℕ) (at : ℕ → ℕ) (s a n : ℕ) → Bytes bs → s + q * n ≤ length bs → ((k : ℕ) → a ≤ k → k < a + n → at k + q * a ≡ s + q * k)
       → drop s bs ≡ flat_map write (map (λ k. read bs (at k)) (range_with_len a n)) ++ drop (s + q * n) bs
-  run_taken bs at s a zero fit le h = let e : s ≡ s + q * 0 = omega arith in λ i. drop (e i) bs
+  run_taken bs at s a zero fit le h = let e : s + q * 0 ≡ s = omega arith in rw e refl
   run_taken bs at s a (suc n) fit le h =
-      let one : q * suc n ≡ q + q * n = omega arith in
-      let here : s ≡ at a = omega (arith, h a (omega arith) (omega arith)) in
-      let on : s + q + q * n ≡ s + q * suc n = omega arith in
-      c.taken bs s fit (omega arith)
-      ∙ ap (λ r. write (read bs s) ++ r) (run_taken bs at (s + q) (a + 1) n fit (omega arith) (λ k l m. omega (arith, row_more q a, h k (omega arith) (omega arith))))
-      ∙ (λ i. write (read bs (here i)) ++ (flat_map write (map (λ k. read bs (at k)) (range_with_len (a + 1) n)) ++ drop (on i) bs))
-      ∙ sym (append_assoc (write (read bs (at a))) (flat_map write (map (λ k. read bs (at k)) (range_with_len (a + 1) n))) (drop (s + q * suc n) bs))
+      let here : at a ≡ s = omega (arith, h a (omega arith) (omega arith)) in
+      let on : s + q * suc n ≡ s + q + q * n = omega arith in
+      let rest = run_taken bs at (s + q) (a + 1) n fit (omega arith) (λ k l m. omega (arith, h k (omega arith) (omega arith))) in
+      rw (here, on, c.taken bs s fit (omega arith), rest) (sym (append_assoc (write (read bs s)) _ _))
 
   -- so long are numbers in a row
   pub length_written : (xs : List ℕ) → length (flat_map write xs) ≡ q * length xs
   length_written [] = omega arith
-  length_written (x ∷ xs) = length-append (write x) (flat_map write xs) ∙ (λ i. c.long x i + length_written xs i) ∙ omega arith
+  length_written (x ∷ xs) = omega (arith, length-append (write x) (flat_map write xs), c.long x, length_written xs)
 
   -- numbers in a row are told apart by their bytes
   pub written_same : (xs ys : List ℕ) → AllByRecursion (λ x. x < most) xs → AllByRecursion (λ x. x < most) ys → length xs ≡ length ys → flat_map write xs ≡ flat_map write ys → xs ≡ ys
@@ -133,5 +92,4 @@ module _ (q most : ℕ) (read : List ℕ → ℕ → ℕ) (write : ℕ → List 
 
   -- numbers in a row are bytes
   pub written_fit : (xs : List ℕ) → AllByRecursion (λ x. x < most) xs → AllByRecursion (λ b. b < 256) (flat_map write xs)
-  written_fit [] p = tt
-  written_fit (x ∷ xs) p = All-append (λ b. b < 256) (write x) (flat_map write xs) (c.fit x p.0) (written_fit xs p.1)
+  written_fit xs p = all_flat (λ b. b < 256) write xs (All-weaker (λ x. x < most) (λ x. AllByRecursion (λ b. b < 256) (write x)) c.fit xs p)

@@ -1,12 +1,11 @@
 -- A file that is accepted is the file of the record that it gives, and that record is in range.
-use Rattle.std.proofs.Common.{◌≡◌, ℕ, ◌+◌, ◌-◌, ◌*◌, ◌/◌, ◌%◌, ◌^◌, ◌<◌, ◌≤◌, min, true, eqb, ltb, leb, List, [], ◌∷◌, ◌++◌, map, length, get_or, take, drop, Ok, sym, refl, ap, ◌∙◌, subst, ⊎_elim, arith, w32, to_z}
+use Rattle.std.proofs.Common.{◌≡◌, ℕ, ◌+◌, ◌-◌, ◌*◌, ◌/◌, ◌%◌, ◌^◌, ◌<◌, ◌≤◌, true, leb, ltb, List, [], ◌∷◌, ◌++◌, map, length, get_or, take, drop, Ok, sym, refl, ap, ◌∙◌, subst, ⊎_elim, arith, w32, to_z}
 use mir.ValLaws.{to_z-Fits}
 use Rattle.std.specs.List.{range_with_len, flat_map}
-use Rattle.std.proofs.lemmas.Nat.{div-add-mod', div_below, mod_below}
 use Rattle.std.proofs.lemmas.List.FromFn.{length-map-range_with_len}
-use Rattle.std.proofs.lemmas.List.{get_or-drop, get_or_past, get_or-take, length-take}
+use Rattle.std.proofs.lemmas.Simd.{get_or-chunk, length-chunk}
 use Rattle.std.proofs.lemmas.Int.{of_z-to_z}
-use Rattle.std.proofs.lemmas.Bool.{and_from, and_parts, cases_lt, cond-false, cond-true, eqb-true, le-leb, leb-true, lt-leb, lt-ltb, ltb-true}
+use Rattle.std.proofs.lemmas.Bool.{and_from, and_parts, cases_lt, eqb-true, le-leb, leb-true, lt-leb, lt-ltb, ltb-true}
 use Rattle.faults.specs.declared.record.RecordFault.TheVariants as fault
 use Rattle.drivefile.specs.Bytes.{block_at, bytes4, le32}
 use Rattle.drivefile.specs.Header.{blocks_for, header_due, needed}
@@ -19,15 +18,17 @@ use Rattle.drivefile.specs.declared.header.Header.{Header}
 use Rattle.drivefile.specs.declared.header.SectionKind.{SectionKind}
 use Rattle.drivefile.specs.declared.header.SectionKind.TheVariants as kind
 use Rattle.drivefile.proofs.Accepted.{rest_tests}
-use Rattle.drivefile.proofs.Codings.{Bytes, byte, run_taken, word}
+use Rattle.drivefile.proofs.Codings.{Bytes, byte, bytes_part, run_taken, word}
+use Rattle.drivefile.proofs.Counted.{counted}
 use Rattle.drivefile.proofs.Items.{passed_items}
-use Rattle.drivefile.proofs.Lengths.{legal, length_block}
+use Rattle.drivefile.proofs.Lengths.{legal}
 use Rattle.drivefile.proofs.Numbered.{block_first, block_of, block_sample, block_turn, blocks, header_block, numbered, sample_block, sample_blocks, turn_block}
 use Rattle.drivefile.proofs.Ordered.{OfBlock, header_of_block, number_of, ordered_ok, section_by}
-use Rattle.drivefile.proofs.Parts.{blocks_enough, joined_same, parts_all}
+use Rattle.drivefile.proofs.Parts.{joined_same, parts_all}
 use Rattle.drivefile.proofs.Rows.{all_counting, all_split, counting_all, joined_all}
 use Rattle.drivefile.proofs.SectionWords.{word_within}
 use Rattle.drivefile.proofs.Sealed.{passed_sealed}
+use Rattle.drivefile.specs.declared.block.Kind.TheVariants as block_kind
 
 -- a section whose values pass, from its words
 record SectionRead (k : SectionKind) (start first second : ℕ) : Type 0 where
@@ -35,44 +36,30 @@ record SectionRead (k : SectionKind) (start first second : ℕ) : Type 0 where
   words_read : value_words (section_by k start first second) ≡ start ∷ first ∷ second ∷ []
   range_read : values_in (section_by k start first second) ≡ true
 
-section_read : (k : SectionKind) (n start first second : ℕ) → n ≡ number_of k → start < 2 ^ 32 → first < 2 ^ 32 → second < 2 ^ 32
-    → Passed (value_tests n start first second) → SectionRead k start first second
-section_read kind.Stroke n start first second e a b c p =
-    let q = subst (λ k. Passed (value_tests k start first second)) e p in
-    record {
-      number_read = refl;
-      words_read = λ i. of_z-to_z w32 start a i ∷ of_z-to_z w32 first b i ∷ of_z-to_z w32 second c i ∷ [];
-      range_read = and_from _ _ q.0 (and_from _ _ q.1.0 q.1.1.0);
-    }
-section_read kind.Roll n start first second e a b c p =
-    let q = subst (λ k. Passed (value_tests k start first second)) e p in
-    record {
-      number_read = refl;
-      words_read = λ i. start ∷ first ∷ sym (eqb-true second 0 q.0) i ∷ [];
-      range_read = and_from _ _ (lt-ltb start (2 ^ 32) a) (lt-ltb first (2 ^ 32) b);
-    }
-section_read kind.Envelope n start first second e a b c p =
-    let q = subst (λ k. Passed (value_tests k start first second)) e p in
-    record {
-      number_read = refl;
-      words_read = λ i. of_z-to_z w32 start a i ∷ first ∷ sym (eqb-true second 0 q.1.0) i ∷ [];
-      range_read = and_from _ _ (word_within (to_z w32 start) (to_z-Fits w32 start (record { fits = a }))) q.0;
-    }
-
--- a block of bytes is a list of bytes
-block_bytes : (file : List ℕ) (b : ℕ) → Bytes file → Bytes (block_at file b)
-block_bytes file b fit i =
-    ⊎_elim
-    (λ l. subst (λ x. x < 256) (sym (get_or-take 512 (drop (512 * b) file) i 0 l ∙ get_or-drop (512 * b) file i 0)) (fit (512 * b + i)))
-    (λ l. subst (λ x. x < 256) (sym (get_or_past (block_at file b) i 0 (omega (arith, length-take 512 (drop (512 * b) file))))) (omega arith))
-    (cases_lt i 512)
+section_read : (k : SectionKind) (start first second : ℕ) → start < 2 ^ 32 → first < 2 ^ 32 → second < 2 ^ 32
+    → Passed (value_tests (number_of k) start first second) → SectionRead k start first second
+section_read kind.Stroke start first second a b c p = record {
+  number_read = refl;
+  words_read = λ i. of_z-to_z w32 start a i ∷ of_z-to_z w32 first b i ∷ of_z-to_z w32 second c i ∷ [];
+  range_read = and_from _ _ p.0 (and_from _ _ p.1.0 p.1.1.0);
+}
+section_read kind.Roll start first second a b c p = record {
+  number_read = refl;
+  words_read = λ i. start ∷ first ∷ sym (eqb-true second 0 p.0) i ∷ [];
+  range_read = and_from _ _ (lt-ltb start (2 ^ 32) a) (lt-ltb first (2 ^ 32) b);
+}
+section_read kind.Envelope start first second a b c p = record {
+  number_read = refl;
+  words_read = λ i. of_z-to_z w32 start a i ∷ first ∷ sym (eqb-true second 0 p.1.0) i ∷ [];
+  range_read = and_from _ _ (word_within (to_z w32 start) (to_z-Fits w32 start (record { fits = a }))) p.0;
+}
 
 -- the bytes of a header's values: four bytes, then five words
 header_bytes : (bs : List ℕ) → length bs ≡ 512 → Bytes bs
     → take 24 (drop 8 bs) ≡ get_or bs 8 0 ∷ get_or bs 9 0 ∷ get_or bs 10 0 ∷ get_or bs 11 0 ∷ flat_map bytes4 (le32 bs 12 ∷ le32 bs 16 ∷ le32 bs 20 ∷ le32 bs 24 ∷ le32 bs 28 ∷ [])
 header_bytes bs long fit =
-    let four = run_taken 1 256 (λ l i. get_or l i 0) (λ w. w ∷ []) byte bs (λ k. 8 + k) 8 0 4 fit (omega arith) (λ k l m. omega arith) in
-    let five = run_taken 4 (2 ^ 32) le32 bytes4 word bs (λ k. 12 + 4 * k) 12 0 5 fit (omega arith) (λ k l m. omega arith) in
+    let four = run_taken byte bs (λ k. 8 + k) 8 0 4 fit (omega arith) (λ k l m. omega arith) in
+    let five = run_taken word bs (λ k. 12 + 4 * k) 12 0 5 fit (omega arith) (λ k l m. omega arith) in
     ap (take 24) (four ∙ ap (λ l. get_or bs 8 0 ∷ get_or bs 9 0 ∷ get_or bs 10 0 ∷ get_or bs 11 0 ∷ l) five)
 
 -- the numbers of samples and turns are the header's
@@ -114,28 +101,33 @@ module _ (file : List ℕ) (fit : Bytes file) (h : Header) (read : reading file 
       subst (λ t. t) (λ i. Passed (later_tests (sym values.samples_are i) (sym values.turns_are i) (sym values.workers_are i) b (block_at file b)))
       (joined_all Passes (rest_tests file) 1 (count - 1) halves.1 b l (omega arith))
 
-  -- the section's values, and the number of blocks
-  last_tests : Passed (value_tests (get_or here 8 0) (le32 here 20) (le32 here 24) (le32 here 28)) × (eqb count (needed (le32 here 12) (le32 here 16)) ≡ true)
-  last_tests =
-      let s = all_split Passes (value_tests (get_or here 8 0) (le32 here 20) (le32 here 24) (le32 here 28)) _ front.1.1.1.1.1.1.1 in
-      (s.0, s.1.0)
+  -- the section's values
+  values_passed : Passed (value_tests (get_or here 8 0) (le32 here 20) (le32 here 24) (le32 here 28))
+  values_passed = (all_split Passes (value_tests (get_or here 8 0) (le32 here 20) (le32 here 24) (le32 here 28)) _ front.1.1.1.1.1.1.1).0
 
   first_bytes : Bytes here
-  first_bytes = block_bytes file 0 fit
+  first_bytes = bytes_part file (512 * 0) 512 fit
 
   read_section : SectionRead values.kind_of_section (le32 here 20) (le32 here 24) (le32 here 28)
   read_section =
-      section_read values.kind_of_section (get_or here 8 0) (le32 here 20) (le32 here 24) (le32 here 28) values.kind_is
-      (word.below here 20 first_bytes) (word.below here 24 first_bytes) (word.below here 28 first_bytes) last_tests.0
+      section_read values.kind_of_section (le32 here 20) (le32 here 24) (le32 here 28)
+      (word.below here 20 first_bytes) (word.below here 24 first_bytes) (word.below here 28 first_bytes)
+      (subst (λ n. Passed (value_tests n (le32 here 20) (le32 here 24) (le32 here 28))) values.kind_is values_passed)
+
+  samples_read : le32 here 12 ≡ length d.samples
+  samples_read = sym values.samples_are ∙ sym (samples_length file h)
+
+  turns_read : le32 here 16 ≡ length d.turns
+  turns_read = sym values.turns_are ∙ sym (turns_length file h)
 
   count_is : count ≡ blocks d
-  count_is = eqb-true _ _ last_tests.1 ∙ (λ i. needed ((sym values.samples_are ∙ sym (samples_length file h)) i) ((sym values.turns_are ∙ sym (turns_length file h)) i))
+  count_is = counted file h read ∙ (λ i. needed (sym (samples_length file h) i) (sym (turns_length file h) i))
 
   whole_blocks : length file ≡ 512 * count
   whole_blocks = (legal (length file) long).long
 
   length_first : length here ≡ 512
-  length_first = let s = (legal (length file) long).some in length_block file 0 (omega (arith, whole_blocks))
+  length_first = let s = (legal (length file) long).some in length-chunk (512 * 0) 512 file (omega (arith, whole_blocks))
 
   -- block 0 is the header of the record
   payload : take 24 (drop 8 here) ≡ header_payload d
@@ -143,19 +135,11 @@ module _ (file : List ℕ) (fit : Bytes file) (h : Header) (read : reading file 
       let s = values.section_is in
       let number : get_or here 8 0 ≡ section_number h.section = values.kind_is ∙ sym read_section.number_read ∙ ap section_number (sym s) in
       let words : le32 here 20 ∷ le32 here 24 ∷ le32 here 28 ∷ [] ≡ value_words h.section = sym read_section.words_read ∙ ap value_words (sym s) in
-      let n : le32 here 12 ≡ length d.samples = sym values.samples_are ∙ sym (samples_length file h) in
-      let m : le32 here 16 ≡ length d.turns = sym values.turns_are ∙ sym (turns_length file h) in
       header_bytes here length_first first_bytes
-      ∙ (λ i. number i ∷ sym values.exponent_is i ∷ sym values.network_is i ∷ sym values.workers_are i ∷ flat_map bytes4 (n i ∷ m i ∷ words i))
+      ∙ (λ i. number i ∷ sym values.exponent_is i ∷ sym values.network_is i ∷ sym values.workers_are i ∷ flat_map bytes4 (samples_read i ∷ turns_read i ∷ words i))
 
   first_is : here ≡ header_block d
   first_is = passed_sealed 0 header_due here length_first first_bytes (omega arith) front.0 ∙ ap (λ l. sealed 1 0 0 l) payload
-
-  long_enough : (b : ℕ) → b < count → 512 * b + 512 ≤ length file
-  long_enough b l = omega (arith, whole_blocks)
-
-  length_here : (b : ℕ) → b < count → length (block_at file b) ≡ 512
-  length_here b l = length_block file b (long_enough b l)
 
   same_sample_blocks : sample_blocks d ≡ blocks_for h.samples 125
   same_sample_blocks = ap (λ n. blocks_for n 125) (samples_length file h)
@@ -163,12 +147,12 @@ module _ (file : List ℕ) (fit : Bytes file) (h : Header) (read : reading file 
   -- a block of samples
   sample_is : (b : ℕ) → 1 ≤ b → b ≤ blocks_for h.samples 125 → b < count → block_at file b ≡ sample_block d b
   sample_is b l m k =
-      passed_items 4 (2 ^ 32) le32 bytes4 word 2 125 1 (omega arith) file fit sample_place (λ i. refl) h.samples b l (long_enough b k) (length_here b k) (block_bytes file b fit)
-      (subst Passed (cond-true (leb b (blocks_for h.samples 125)) _ _ (le-leb b (blocks_for h.samples 125) m)) (later_passed b l k))
+      passed_items word block_kind.Samples 125 1 (omega arith) file fit sample_place (λ i. refl) h.samples b _ refl l (omega (arith, whole_blocks))
+      (rw (le-leb b (blocks_for h.samples 125) m) at (later_passed b l k))
 
   -- a block of turns passes as a block, and each of its turns
   turn_tests : (b : ℕ) → 1 + blocks_for h.samples 125 ≤ b → b < count → Passed (turn_block_tests h.samples h.turns h.workers b (block_at file b))
-  turn_tests b l k = subst Passed (cond-false (leb b (blocks_for h.samples 125)) _ _ (lt-leb b (blocks_for h.samples 125) (omega arith))) (later_passed b (omega arith) k)
+  turn_tests b l k = rw (lt-leb b (blocks_for h.samples 125) (omega arith)) at (later_passed b (omega arith) k)
 
   abbrev turns_here : ℕ → ℕ
   turns_here b = turns_in_block h.samples h.turns b
@@ -180,9 +164,8 @@ module _ (file : List ℕ) (fit : Bytes file) (h : Header) (read : reading file 
 
   turn_is : (b : ℕ) → 1 + blocks_for h.samples 125 ≤ b → b < count → block_at file b ≡ turn_block d b
   turn_is b l k =
-      let one : turns_here b ≡ 1 * turns_here b = omega arith in
-      passed_items 1 256 (λ bs i. get_or bs i 0) (λ w. w ∷ []) byte 3 500 (1 + blocks_for h.samples 125) (omega arith) file fit (turn_place h.samples) (λ i. omega arith) h.turns b l (long_enough b k) (length_here b k) (block_bytes file b fit)
-      (subst (λ u. Passed (block_tests b (record { kind = 3; count = turns_here b; used = u }) (block_at file b))) one (turn_parts b l k).0)
+      passed_items byte block_kind.Turns 500 (1 + blocks_for h.samples 125) (omega arith) file fit (turn_place h.samples) (λ i. omega arith) h.turns b (turns_here b) (omega arith) l (omega (arith, whole_blocks))
+      (turn_parts b l k).0
       ∙ (λ i. items_block 3 500 (λ w. w ∷ []) (1 + sym same_sample_blocks i) d.turns b)
 
   -- each block is the record's
@@ -193,15 +176,14 @@ module _ (file : List ℕ) (fit : Bytes file) (h : Header) (read : reading file 
       (λ m. turn_is b (omega arith) k ∙ sym (block_turn d b (omega (arith, same_sample_blocks))))
       (λ m. sample_is b (omega arith) m k ∙ sym (block_sample d b (omega arith) (omega (arith, same_sample_blocks))))
       (cases_lt (blocks_for h.samples 125) b))
-      (λ l. let e : 0 ≡ b = omega arith in subst (λ j. block_at file j ≡ block_of d j) e (first_is ∙ sym (block_first d)))
+      (λ l. let e : b ≡ 0 = omega arith in rw e (first_is ∙ sym (block_first d)))
       (cases_lt 0 b)
 
   -- so the file is the record's
   pub file_is : file ≡ file_of d
   file_is =
-      let zero_off : (b : ℕ) → b - 0 ≡ b = λ b. omega arith in
       sym (parts_all 512 file 0 count (omega (arith, whole_blocks)))
-      ∙ joined_same (λ b. part 512 file (b - 0)) (block_of d) 0 count (λ b l m. ap (part 512 file) (zero_off b) ∙ block_is b (omega arith))
+      ∙ joined_same (λ b. part 512 file (b - 0)) (block_of d) 0 count (λ b l m. let e : b - 0 ≡ b = omega arith in rw e (block_is b (omega arith)))
       ∙ (λ i. flat_map (block_of d) (range_with_len 0 (count_is i)))
       ∙ sym (numbered d)
 
@@ -210,18 +192,12 @@ module _ (file : List ℕ) (fit : Bytes file) (h : Header) (read : reading file 
   turn_below i l =
       let b = 1 + blocks_for h.samples 125 + i / 500 in
       let j = 8 + i % 500 in
-      let parted = div-add-mod' i 500 in
-      let rest = mod_below i 500 (omega arith) in
-      let enough = blocks_enough h.turns 500 (omega arith) in
-      let quotient : i / 500 < blocks_for h.turns 500 = div_below i 500 (blocks_for h.turns 500) (omega arith) (omega arith) in
-      let all : count ≡ needed h.samples h.turns = count_is ∙ (λ k. needed ((samples_length file h) k) ((turns_length file h) k)) in
-      let inside : b < count = omega arith in
-      let off : b - (1 + blocks_for h.samples 125) ≡ i / 500 = omega arith in
-      let some : i % 500 < turns_here b = subst (λ k. i % 500 < min 500 (h.turns - 500 * k)) (sym off) (omega arith) in
+      let inside : b < count = omega (arith, counted file h read) in
+      let some : i % 500 < turns_here b = omega arith in
       let passes = counting_all Passes (λ k. test (ltb (get_or (block_at file b) k 0) h.workers) (fault.Worker b k)) 8 (turns_here b) (turn_parts b (omega arith) inside).1 j (omega arith) (omega arith) in
       let place : 512 * b + j ≡ turn_place h.samples i = omega arith in
       subst (λ x. x < h.workers)
-      (get_or-take 512 (drop (512 * b) file) j 0 (omega arith) ∙ get_or-drop (512 * b) file j 0 ∙ (λ k. get_or file (place k) 0))
+      (get_or-chunk (512 * b) 512 file j 0 (omega arith) ∙ (λ k. get_or file (place k) 0))
       (ltb-true _ _ passes)
 
   -- and the record is in range
@@ -235,8 +211,8 @@ module _ (file : List ℕ) (fit : Bytes file) (h : Header) (read : reading file 
         exponent_to = omega (arith, values.exponent_is, leb-true (get_or here 9 0) 6 exponent.1);
         workers_from = omega (arith, values.workers_are, leb-true 1 (get_or here 11 0) workers.0);
         workers_to = omega (arith, values.workers_are, leb-true (get_or here 11 0) 8 workers.1);
-        samples_to = omega (arith, (samples_length file h), values.samples_are, leb-true (le32 here 12) 65536 t.1.1.1.1.0);
-        turns_to = omega (arith, (turns_length file h), values.turns_are, leb-true (le32 here 16) 65536 t.1.1.1.1.1.0);
+        samples_to = omega (arith, samples_length file h, values.samples_are, leb-true (le32 here 12) 65536 t.1.1.1.1.0);
+        turns_to = omega (arith, turns_length file h, values.turns_are, leb-true (le32 here 16) 65536 t.1.1.1.1.1.0);
         section_values = ap values_in values.section_is ∙ read_section.range_read;
         sample_words = all_counting (λ x. x < 2 ^ 32) (λ i. le32 file (sample_place i)) 0 h.samples (λ i l m. word.below file (sample_place i) fit);
         turn_workers = all_counting (λ w. w < h.workers) (λ i. get_or file (turn_place h.samples i) 0) 0 h.turns (λ i l m. turn_below i (omega arith));

@@ -1,7 +1,7 @@
-pub mod Scans
-pub mod Values
 pub mod Rounds
 pub mod Lengths
+pub mod Chunks
+pub mod Blocks
 pub mod Columns
 pub mod Parts
 pub mod Rows
@@ -15,6 +15,7 @@ pub mod SectionWords
 pub mod Apart
 pub mod Accepted
 pub mod Exact
+pub mod Counted
 pub mod Calls
 pub mod FileBytes
 pub mod Theorems

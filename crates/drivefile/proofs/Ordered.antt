@@ -1,7 +1,8 @@
 -- The parts of a file against their tests: a block, the header's values, a later block, all of it.
-use Rattle.std.proofs.Common.{◌≡◌, ℕ, zero, suc, ◌+◌, ◌-◌, ◌/◌, ◌&&◌, eqb, ltb, leb, List, [], ◌∷◌, length, get_or, IfOk, None, Ok, Err, Option, Result, sym, refl, subst, arith, w32, to_z}
+use Rattle.std.proofs.Common.{◌≡◌, ℕ, ◌+◌, ◌-◌, ◌/◌, ◌&&◌, eqb, ltb, leb, List, [], ◌∷◌, length, get_or, None, Ok, Err, Option, sym, refl, subst, arith, w32, to_z}
 use Rattle.std.specs.List.{range_with_len, flat_map}
 use Rattle.std.proofs.lemmas.Bool.{eqb-true}
+use Rattle.std.proofs.lemmas.Result.{IfOk-at_ok, MatchResult-at_err, MatchResult-at_ok}
 use Rattle.std.proofs.lemmas.Bool.Decides.{nat_tests}
 use Rattle.faults.specs.declared.block.BlockFault.TheVariants.{Check, Frame, Filling}
 use Rattle.faults.specs.declared.block.Field.TheVariants.{Kind, Number, Count, Zero}
@@ -28,8 +29,7 @@ use Rattle.drivefile.proofs.Runs.{Any, Ordered, Runs, runs_chosen, runs_cond, ru
 
 -- the one number below 1 is 0
 below_one : (n : ℕ) → ltb n 1 ≡ eqb n 0
-below_one zero = refl
-below_one (suc n) = grind (arith, nat_tests)
+below_one n = grind (arith, nat_tests)
 
 -- a block against its tests
 runs_block : (b : ℕ) (due : Due) (bs : List ℕ) → Runs Any (λ f. f) (lifted (block_test b due bs)) (block_tests b due bs)
@@ -139,12 +139,12 @@ ordered file = runs_ordered (runs_file file)
 
 -- a file with a header passes them all
 pub ordered_ok : (file : List ℕ) (h : Header) → reading file ≡ Ok h → Passed (tests file)
-ordered_ok file h e = subst (λ (r : Result Header RecordFault). Ordered r (tests file)) e (ordered file)
+ordered_ok file h e = MatchResult-at_ok (λ _. Passed (tests file)) (FirstOf (tests file)) h e (ordered file)
 
 -- a file with a fault fails first at the test that names it
 pub ordered_err : (file : List ℕ) (f : RecordFault) → reading file ≡ Err f → FirstOf (tests file) f
-ordered_err file f e = subst (λ (r : Result Header RecordFault). Ordered r (tests file)) e (ordered file)
+ordered_err file f e = MatchResult-at_err (λ _. Passed (tests file)) (FirstOf (tests file)) f e (ordered file)
 
 -- and its header has the values of block 0
 pub header_of_block : (file : List ℕ) (h : Header) → reading file ≡ Ok h → OfBlock (block_at file 0) h
-header_of_block file h e = subst (λ (r : Result Header RecordFault). IfOk r (OfBlock (block_at file 0))) e (runs_made (runs_file file))
+header_of_block file h e = IfOk-at_ok (OfBlock (block_at file 0)) e (runs_made (runs_file file))

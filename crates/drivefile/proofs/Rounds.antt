@@ -1,13 +1,13 @@
 -- The steps of the loops over blocks and samples.
-use Rattle.std.proofs.Common.{◌≡◌, ℕ, zero, suc, ◌+◌, ◌-◌, ◌*◌, ◌<◌, ◌≤◌, List, [], ◌∷◌, ◌++◌, map, length, take, drop, set, Ok, Err, Result, sym, refl, ap, ◌∙◌, add-zero, zero-add, arith}
-use Rattle.std.specs.List.{range_with_len}
-use Rattle.std.proofs.lemmas.List.FromFn.{length-map-range_with_len, map-range_with_len_more}
+use Rattle.std.proofs.Common.{◌≡◌, ℕ, zero, suc, ◌+◌, ◌-◌, ◌*◌, ◌<◌, ◌≤◌, List, [], ◌++◌, length, take, drop, get_or, Ok, Err, Result, sym, refl, ap, ◌∙◌, ⊎_elim, arith}
+use borrow.Rule.Slice.PartMut.{put_mid}
+use Rattle.std.proofs.lemmas.Bool.{cases_lt}
 use Rattle.std.proofs.lemmas.Nat.{div-mul-add, mod-mul-add}
-use Rattle.std.proofs.lemmas.List.{append_assoc, append-nil, drop_all, drop_at, drop-drop, drop_more, set_at, take_at}
+use Rattle.std.proofs.lemmas.List.{get_or-append_right, get_or_append_left, get_or-take, length-append, length-drop, length-take}
+use Rattle.std.proofs.lemmas.List.FromFn.{fill_by_all, get_or-map-range_with_len, length-map-range_with_len}
 use Rattle.drivefile.specs.Bytes.{le32}
-use Rattle.drivefile.specs.Items.{put_block, sample_at, sample_place, samples_of}
-use Rattle.drivefile.specs.Tests.{each_of}
-use Rattle.drivefile.specs.Words.{word_from, words_from}
+use Rattle.drivefile.specs.Items.{block_words, sample_in, samples_in}
+use Rattle.drivefile.specs.Tests.{and_then, each_of}
 
 module _ {E : Type 0} (t : ℕ → Result (Unit {0}) E) (b n : ℕ) where
   -- a test that passes leaves the rest
@@ -18,75 +18,54 @@ module _ {E : Type 0} (t : ℕ → Result (Unit {0}) E) (b n : ℕ) where
   pub each_here : (e : E) → b < n → t b ≡ Err e → each_of t b (n - b) ≡ Err e
   each_here fault more failed = let e : n - b ≡ suc (n - (b + 1)) = omega arith in rw (e, failed)
 
--- no test is left
-pub each_none : {E : Type 0} (t : ℕ → Result (Unit {0}) E) (b n : ℕ) → n ≡ 0 → each_of t b n ≡ Ok tt
-each_none t b n e = rw e refl
+-- tests that answer the same have the same first fault
+pub each_same : {E : Type 0} (t u : ℕ → Result (Unit {0}) E) (b n : ℕ) → ((i : ℕ) → b ≤ i → i < b + n → t i ≡ u i) → each_of t b n ≡ each_of u b n
+each_same t u b zero same = refl
+each_same t u b (suc n) same = λ i. and_then (same b (omega arith) (omega arith) i) (λ _. each_same t u (b + 1) n (λ j l m. same j (omega arith) (omega arith)) i)
 
--- a loop that writes f i over the front of d, place by place
-pub fill_front : (f : ℕ → ℕ) (d : List ℕ) (i : ℕ) → i < length d → set (map f (range_with_len 0 i) ++ drop i d) i (f i) ≡ map f (range_with_len 0 (i + 1)) ++ drop (i + 1) d
-fill_front f d i h =
-    ap (λ (t : List ℕ). set (map f (range_with_len 0 i) ++ t) i (f i)) (drop_more d i 0 h)
-    ∙ set_at (map f (range_with_len 0 i)) _ _ (f i) i (length-map-range_with_len f 0 i)
-    ∙ sym (append_assoc (map f (range_with_len 0 i)) (f i ∷ []) (drop (i + 1) d))
-    ∙ ap (λ (t : List ℕ). t ++ drop (i + 1) d) (sym (map-range_with_len_more f 0 i i (zero-add i)))
+-- the samples of the blocks, copied block by block
+module _ (blocks : List (List ℕ)) where
+  -- the first n places hold the first n samples
+  abbrev pub Copied : List ℕ → ℕ → Type 0
+  Copied out n = (k : ℕ) → k < n → get_or out k 0 ≡ sample_in blocks k
 
--- the same where it is known of the list that is written
-pub fill_next : (f : ℕ → ℕ) (d out : List ℕ) (i v : ℕ) → i < length d → v ≡ f i → out ≡ map f (range_with_len 0 i) ++ drop i d → set out i v ≡ map f (range_with_len 0 (i + 1)) ++ drop (i + 1) d
-fill_next f d out i v h e is =
-    ap (λ (t : List ℕ). set t i v) is
-    ∙ ap (λ (w : ℕ). set (map f (range_with_len 0 i) ++ drop i d) i w) e
-    ∙ fill_front f d i h
+  -- sample i of block b
+  sample_here : (b i : ℕ) → i < 125 → sample_in blocks (125 * b + i) ≡ le32 (get_or blocks b []) (8 + 4 * i)
+  sample_here b i less =
+      let e : 125 * b + i ≡ b * 125 + i = omega arith in
+      rw (e, div-mul-add b 125 i less, mod-mul-add b 125 i less) refl
 
--- once all n places are written, nothing is left of d
-pub front_all : (f : ℕ → ℕ) (d out : List ℕ) (i n : ℕ) → length d ≡ n → i ≡ n → out ≡ map f (range_with_len 0 i) ++ drop i d → out ≡ map f (range_with_len 0 n)
-front_all f d out i n long e is =
-    is
-    ∙ ap (λ (t : List ℕ). map f (range_with_len 0 i) ++ t) (drop_all i d (omega arith))
-    ∙ append-nil (map f (range_with_len 0 i))
-    ∙ ap (λ (k : ℕ). map f (range_with_len 0 k)) e
+  module _ (out words : List ℕ) (b s m : ℕ) (most : m ≤ 125) (room : 125 * b + m ≤ length out) (is : words ≡ take m (block_words (get_or blocks b []))) (before : Copied out (125 * b)) where
+    abbrev word : ℕ → ℕ
+    word i = le32 (get_or blocks b []) (8 + 4 * i)
 
--- n values of f from a on, after the first a
-join : (f g : ℕ → ℕ) (a n : ℕ) → ((i : ℕ) → i < n → g i ≡ f (a + i)) → map f (range_with_len 0 a) ++ map g (range_with_len 0 n) ≡ map f (range_with_len 0 (a + n))
-join f g a zero each = append-nil (map f (range_with_len 0 a)) ∙ ap (λ (k : ℕ). map f (range_with_len 0 k)) (sym (add-zero a))
-join f g a (suc n) each =
-    let more : a + suc n ≡ a + n + 1 = omega arith in
-    let one : suc n ≡ n + 1 = omega arith in
-    ap (λ (k : ℕ). map f (range_with_len 0 a) ++ map g (range_with_len 0 k)) one
-    ∙ ap (λ (t : List ℕ). map f (range_with_len 0 a) ++ t) (map-range_with_len_more g 0 n n (zero-add n))
-    ∙ sym (append_assoc (map f (range_with_len 0 a)) (map g (range_with_len 0 n)) (g n ∷ []))
-    ∙ ap (λ (t : List ℕ). t ++ g n ∷ []) (join f g a n (λ i h. each i (omega arith)))
-    ∙ ap (λ (v : ℕ). map f (range_with_len 0 (a + n)) ++ v ∷ []) (each n (omega arith))
-    ∙ sym (map-range_with_len_more f 0 (a + n) (a + n) (zero-add (a + n)))
-    ∙ ap (λ (k : ℕ). map f (range_with_len 0 k)) (sym more)
+    words_long : length words ≡ m
+    words_long = let e = length-map-range_with_len word 0 125 in ap length is ∙ omega (arith, length-take m (block_words (get_or blocks b [])))
 
--- n values that are written after the front
-put_next : (f g : ℕ → ℕ) (d out : List ℕ) (a n : ℕ) → ((i : ℕ) → i < n → g i ≡ f (a + i)) → out ≡ map f (range_with_len 0 a) ++ drop a d → take a out ++ (map g (range_with_len 0 n) ++ drop n (drop a out)) ≡ map f (range_with_len 0 (a + n)) ++ drop (a + n) d
-put_next f g d out a n each is =
-    let front = map f (range_with_len 0 a) in
-    let ys = map g (range_with_len 0 n) in
-    let long = length-map-range_with_len f 0 a in
-    ap (λ (o : List ℕ). take a o ++ (ys ++ drop n (drop a o))) is
-    ∙ ap (λ (t : List ℕ). t ++ (ys ++ drop n (drop a (front ++ drop a d)))) (take_at front (drop a d) a long)
-    ∙ ap (λ (t : List ℕ). front ++ (ys ++ drop n t)) (drop_at front (drop a d) a long)
-    ∙ ap (λ (t : List ℕ). front ++ (ys ++ t)) (drop-drop n a d)
-    ∙ sym (append_assoc front ys (drop (a + n) d))
-    ∙ ap (λ (t : List ℕ). t ++ drop (a + n) d) (join f g a n each)
+    -- m words of block b, put after the samples of the blocks before it
+    pub copied_more : (n : ℕ) → n ≡ 125 * b + m → Copied (put_mid (125 * b) s out words) n
+    copied_more n e k less =
+        let front : length (take (125 * b) out) ≡ 125 * b = omega (arith, length-take (125 * b) out) in
+        ⊎_elim
+        (λ l. get_or_append_left (take (125 * b) out) _ 0 k (omega (arith, front)) ∙ get_or-take (125 * b) out k 0 l ∙ before k l)
+        (λ l. let i = k - 125 * b in
+        let back : 125 * b + i ≡ k = omega arith in
+        get_or-append_right (take (125 * b) out) _ (125 * b) k 0 front l
+        ∙ get_or_append_left words _ 0 i (omega (arith, words_long))
+        ∙ ap (λ (w : List ℕ). get_or w i 0) is
+        ∙ get_or-take m (block_words (get_or blocks b [])) i 0 (omega arith)
+        ∙ get_or-map-range_with_len word 0 125 i i 0 (omega arith) (omega arith)
+        ∙ sym (sample_here b i (omega arith))
+        ∙ ap (sample_in blocks) back)
+        (cases_lt k (125 * b))
 
--- word i of the payload of sample block b is sample 125 × b + i
-place_in_block : (b i : ℕ) → i < 125 → 512 * (1 + b) + 8 + 4 * i ≡ sample_place (125 * b + i)
-place_in_block b i h =
-    let e : 125 * b + i ≡ b * 125 + i = omega arith in
-    let q = div-mul-add b 125 i h in
-    let r = mod-mul-add b 125 i h in
-    rw (e, q, r)
-
--- once i has come to n, the front is whole
-pub whole_front : (f : ℕ → ℕ) (d out : List ℕ) (i n : ℕ) → i ≡ n → out ≡ map f (range_with_len 0 i) ++ drop i d → out ≡ map f (range_with_len 0 n) ++ drop n d
-whole_front f d out i n e h = h ∙ ap (λ (k : ℕ). map f (range_with_len 0 k) ++ drop k d) e
-
--- the first n samples of block b, put after those of the blocks before it
-pub block_next : (file d out : List ℕ) (b n m : ℕ) → n ≤ 125 → 125 * b + n ≡ m → out ≡ samples_of file (125 * b) ++ drop (125 * b) d → put_block file b n out ≡ samples_of file m ++ drop m d
-unfolding words_from
-block_next file d out b n m h e is =
-    whole_front (sample_at file) d (put_block file b n out) (125 * b + n) m e
-    (put_next (sample_at file) (word_from file (512 * (1 + b) + 8)) d out (125 * b) n (λ i less. ap (le32 file) (place_in_block b i (omega arith))) is)
+    -- where they come to the end, the list holds the samples
+    pub copied_last : 125 * b + m ≡ length out → s ≡ m → put_mid (125 * b) s out words ≡ samples_in blocks (length out)
+    copied_last whole rest =
+        let front = length-take (125 * b) out in
+        let after = length-drop s (drop (125 * b) out) in
+        let tail = length-drop (125 * b) out in
+        let long : length (put_mid (125 * b) s out words) ≡ length out =
+        length-append (take (125 * b) out) (words ++ drop s (drop (125 * b) out)) ∙ ap (λ n. length (take (125 * b) out) + n) (length-append words (drop s (drop (125 * b) out)))
+        ∙ omega (arith, front, after, tail, words_long) in
+        fill_by_all (sample_in blocks) (put_mid (125 * b) s out words) (length out) 0 long (copied_more (length out) (sym whole))

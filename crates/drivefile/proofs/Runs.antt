@@ -1,5 +1,5 @@
 -- The nested tests of a result as one list: all pass, or the first that fails names the fault.
-use Rattle.std.proofs.Common.{◌≡◌, ℕ, zero, suc, ◌+◌, Bool, true, false, cond, ltb, List, [], ◌∷◌, ◌++◌, map, get_or, IfOk, Some, None, Ok, Err, Option, Result, sym, refl, ap, ◌∙◌}
+use Rattle.std.proofs.Common.{◌≡◌, ℕ, zero, suc, ◌+◌, Bool, true, false, cond, ltb, List, [], ◌∷◌, ◌++◌, map, get_or, IfOk, MatchResult, Some, None, Ok, Err, Option, Result, sym, refl, ap, ◌∙◌}
 use Rattle.std.specs.List.{range_with_len, flat_map}
 use Rattle.std.proofs.ByRecursion.{All-append}
 use Rattle.std.proofs.lemmas.List.{append_assoc}
@@ -12,8 +12,7 @@ use Rattle.drivefile.specs.Order.{FirstOf, Passed, Passes, Test, test}
 
 -- a result against a list of tests: all pass where it is Ok, and its fault is the first that fails
 abbrev pub Ordered : {T : Type 0} → Result T RecordFault → List Test → Type 0
-Ordered (Ok t) ts = Passed ts
-Ordered (Err f) ts = FirstOf ts f
+Ordered r ts = MatchResult r (λ _. Passed ts) (FirstOf ts)
 
 -- all tests pass and P holds of the value, or the fault, as g names it, is the first
 pub data Runs {T E : Type 0} (P : T → Type 0) (g : E → RecordFault) : Result T E → List Test → Type 0 where

@@ -1,14 +1,14 @@
 -- A block passes its tests exactly when it is the block of its kind, number, item count and payload.
-use Rattle.std.proofs.Common.{◌≡◌, ℕ, zero, suc, ◌+◌, ◌-◌, ◌*◌, ◌/◌, ◌%◌, ◌<◌, ◌≤◌, eqb, List, ◌∷◌, ◌++◌, length, get_or, take, drop, replicate, sym, refl, ap, ◌∙◌, arith}
-use Rattle.std.proofs.lemmas.Nat.{div-add-mod', mod_below}
-use Rattle.std.proofs.lemmas.List.{append_assoc, drop_all, drop_at, drop-drop, drop_more, get_or-append-add, get_or_append_left, get_or-drop, get_or-replicate, length-append, length-drop, length-replicate, length-take, take-append-drop, take_at}
+use Rattle.std.proofs.Common.{◌≡◌, ℕ, zero, suc, ◌+◌, ◌-◌, ◌*◌, ◌%◌, ◌<◌, ◌≤◌, eqb, List, ◌++◌, length, get_or, take, drop, replicate, sym, refl, ap, ◌∙◌, arith}
+use Rattle.std.proofs.lemmas.Simd.{chunk-drop, get_or-chunk, length-chunk}
+use Rattle.std.proofs.lemmas.List.{append_assoc, drop_all, ext_get_or, get_or-append_right, get_or_append_left, get_or-replicate, length-append, length-drop, length-replicate, length-take, take_at}
 use Rattle.std.proofs.lemmas.Bool.{eq-eqb, eqb-true}
-use Rattle.drivefile.specs.Block.{check_of, weighted, weighted_sum}
+use Rattle.drivefile.specs.Block.{check_of, weighted, weighted_sum, kind_number}
 use Rattle.drivefile.specs.Bytes.{bytes2, le16}
 use Rattle.drivefile.specs.File.{sealed, unsealed}
 use Rattle.drivefile.specs.Order.{Passed, Passes, block_tests, test}
 use Rattle.drivefile.specs.declared.block.Due.{Due}
-use Rattle.drivefile.proofs.Codings.{Bytes, low, taken2}
+use Rattle.drivefile.proofs.Codings.{Bytes, taken2}
 use Rattle.drivefile.proofs.Rows.{all_counting, counting_all}
 
 -- the weighted sum looks at no byte after the numbers that it counts
@@ -25,25 +25,20 @@ check_front xs ys h = ap (λ s. s % 65521) (weighted_front xs ys 255 (omega arit
 
 -- a run of zero bytes
 zeros_taken : (bs : List ℕ) (i n : ℕ) → i + n ≤ length bs → ((k : ℕ) → i ≤ k → k < i + n → get_or bs k 0 ≡ 0) → drop i bs ≡ replicate n 0 ++ drop (i + n) bs
-zeros_taken bs i zero le h = let e : i ≡ i + 0 = omega arith in λ k. drop (e k) bs
-zeros_taken bs i (suc n) le h =
-    let e : i + 1 + n ≡ i + suc n = omega arith in
-    drop_more bs i 0 (omega arith)
-    ∙ (λ k. h i (omega arith) (omega arith) k ∷ zeros_taken bs (i + 1) n (omega arith) (λ j p q. h j (omega arith) (omega arith)) k)
-    ∙ (λ k. 0 ∷ (replicate n 0 ++ drop (e k) bs))
+zeros_taken bs i n le h =
+    let zeros : take n (drop i bs) ≡ replicate n 0 = ext_get_or 0 _ _ (length-chunk i n bs le ∙ sym (length-replicate n 0)) (λ k l. grind (arith, get_or-chunk, get_or-replicate, length-chunk i n bs le, h (i + k))) in
+    chunk-drop i n bs ∙ ap (λ r. r ++ drop (i + n) bs) zeros
 
 pub length_unsealed : (kind b count : ℕ) (payload : List ℕ) → length payload ≤ 502 → length (unsealed kind b count payload) ≡ 510
 length_unsealed kind b count payload le =
-    let e = length-append payload (replicate (502 - length payload) 0) in
-    let f = length-replicate {A = ℕ} (502 - length payload) 0 in
-    omega (arith, e, f)
+    omega (arith, length-append payload (replicate (502 - length payload) 0), length-replicate {A = ℕ} (502 - length payload) 0)
 
 module _ (b : ℕ) (due : Due) (bs : List ℕ) (long : length bs ≡ 512) (fit : Bytes bs) (room : due.used ≤ 502) (p : Passed (block_tests b due bs)) where
-  abbrev body : List ℕ
-  body = unsealed due.kind b due.count (take due.used (drop 8 bs))
-
   abbrev payload : List ℕ
   payload = take due.used (drop 8 bs)
+
+  abbrev body : List ℕ
+  body = unsealed (kind_number due.kind) b due.count payload
 
   length_payload : length payload ≡ due.used
   length_payload = omega (arith, length-take due.used (drop 8 bs), length-drop 8 bs)
@@ -57,40 +52,31 @@ module _ (b : ℕ) (due : Due) (bs : List ℕ) (long : length bs ≡ 512) (fit :
   after_frame =
       let e : 8 + due.used + (502 - due.used) ≡ 510 = omega arith in
       let zero_bytes = counting_all Passes (λ i. test (eqb (get_or bs i 0) 0) _) (8 + due.used) (502 - due.used) p.1.1.1.1.1 in
-      sym (take-append-drop due.used (drop 8 bs))
-      ∙ ap (λ r. payload ++ r) (drop-drop due.used 8 bs
-      ∙ zeros_taken bs (8 + due.used) (502 - due.used) (omega arith) (λ k l m. eqb-true (get_or bs k 0) 0 (zero_bytes k l m))
-      ∙ (λ i. replicate (502 - sym length_payload i) 0 ++ drop (e i) bs)
-      ∙ ap (λ r. replicate (502 - length payload) 0 ++ r) ends)
-      ∙ sym (append_assoc payload (replicate (502 - length payload) 0) (bytes2 (le16 bs 510)))
+      let rest = zeros_taken bs (8 + due.used) (502 - due.used) (omega arith) (λ k l m. eqb-true (get_or bs k 0) 0 (zero_bytes k l m)) in
+      let filled : drop (8 + due.used) bs ≡ replicate (502 - length payload) 0 ++ bytes2 (le16 bs 510) = rw (length_payload, ← ends, ← e) rest in
+      chunk-drop 8 due.used bs ∙ ap (λ r. payload ++ r) filled ∙ sym (append_assoc payload (replicate (502 - length payload) 0) (bytes2 (le16 bs 510)))
 
   -- the block up to its check, then its last two bytes
   framed : bs ≡ body ++ bytes2 (le16 bs 510)
   framed =
-      let kind : le16 bs 0 ≡ due.kind = eqb-true _ _ p.1.0 in
+      let kind : le16 bs 0 ≡ (kind_number due.kind) = eqb-true _ _ p.1.0 in
       let number : le16 bs 2 ≡ b = eqb-true _ _ p.1.1.0 in
       let count : le16 bs 4 ≡ due.count = eqb-true _ _ p.1.1.1.0 in
       let none : le16 bs 6 ≡ 0 = eqb-true _ _ p.1.1.1.1.0 in
       taken2 bs 0 fit (omega arith)
-      ∙ (λ i. bytes2 (kind i) ++ taken2 bs 2 fit (omega arith) i)
-      ∙ (λ i. bytes2 due.kind ++ (bytes2 (number i) ++ taken2 bs 4 fit (omega arith) i))
-      ∙ (λ i. bytes2 due.kind ++ (bytes2 b ++ (bytes2 (count i) ++ taken2 bs 6 fit (omega arith) i)))
-      ∙ (λ i. bytes2 due.kind ++ (bytes2 b ++ (bytes2 due.count ++ (bytes2 (none i) ++ after_frame i))))
+      ∙ rw (kind, taken2 bs 2 fit (omega arith), number, taken2 bs 4 fit (omega arith), count, taken2 bs 6 fit (omega arith), none)
+      (ap (λ r. bytes2 (kind_number due.kind) ++ (bytes2 b ++ (bytes2 due.count ++ (bytes2 0 ++ r)))) after_frame)
 
   -- a block that passes is the block of what it holds
-  pub passed_sealed : bs ≡ sealed due.kind b due.count (take due.used (drop 8 bs))
+  pub passed_sealed : bs ≡ sealed (kind_number due.kind) b due.count (take due.used (drop 8 bs))
   passed_sealed =
-      let long_body = length_unsealed due.kind b due.count payload (omega (arith, length_payload)) in
+      let long_body = length_unsealed (kind_number due.kind) b due.count payload (omega (arith, length_payload)) in
       let stored : le16 bs 510 ≡ check_of body = sym (eqb-true _ _ p.0) ∙ ap check_of framed ∙ check_front body (bytes2 (le16 bs 510)) long_body in
       framed ∙ ap (λ c. body ++ bytes2 c) stored
 
 -- a number of two bytes is the one that they make
-half : (n : ℕ) → n < 65536 → n % 256 + 256 * (n / 256 % 256) ≡ n
-half n h =
-    let d = div-add-mod' n 256 in
-    let m = mod_below n 256 (omega arith) in
-    let e : n / 256 % 256 ≡ n / 256 = low 256 (n / 256) 0 (n / 256) (omega arith) (omega arith) in
-    omega (arith, e)
+half : (n : ℕ) → n < 65536 → le16 (bytes2 n) 0 ≡ n
+half n h = omega arith
 
 module _ (kind b count : ℕ) (payload : List ℕ) (room : length payload ≤ 502) where
   abbrev front : List ℕ
@@ -113,39 +99,28 @@ module _ (kind b count : ℕ) (payload : List ℕ) (room : length payload ≤ 50
 
   stored : le16 block 510 ≡ check_of front
   stored =
-      let at : drop 510 block ≡ bytes2 (check_of front) = drop_at front (bytes2 (check_of front)) 510 long_front in
-      let a : get_or block 510 0 ≡ get_or (bytes2 (check_of front)) 0 0 = sym (get_or-drop 510 block 0 0) ∙ ap (λ l. get_or l 0 0) at in
-      let c : get_or block 511 0 ≡ get_or (bytes2 (check_of front)) 1 0 = sym (get_or-drop 510 block 1 0) ∙ ap (λ l. get_or l 1 0) at in
-      (λ i. a i + 256 * c i) ∙ half (check_of front) (let m = mod_below (weighted_sum front) 65521 (omega arith) in omega arith)
+      let a = get_or-append_right front (bytes2 (check_of front)) 510 510 0 long_front (omega arith) in
+      let c = get_or-append_right front (bytes2 (check_of front)) 510 511 0 long_front (omega arith) in
+      (λ i. a i + 256 * c i) ∙ half (check_of front) (omega arith)
 
   -- the bytes after the payload, up to the check, are zero
   blank : (i : ℕ) → 8 + length payload ≤ i → i < 510 → get_or block i 0 ≡ 0
   blank i l m =
       let fill : List ℕ = replicate (502 - length payload) 0 in
-      let n = 502 - length payload in
-      let k = i - 8 - length payload in
       let e : i ≡ 8 + (i - 8) = omega arith in
-      let d : i - 8 ≡ length payload + k = omega arith in
-      let long : length (payload ++ fill) ≡ 502 = omega (arith, length-append payload fill, length-replicate {A = ℕ} n 0) in
-      (λ j. get_or block (e j) 0) ∙ sym (get_or-drop 8 block (i - 8) 0)
-      ∙ get_or_append_left (payload ++ fill) (bytes2 (check_of front)) 0 (i - 8) (omega arith)
-      ∙ (λ j. get_or (payload ++ fill) (d j) 0)
-      ∙ get_or-append-add payload fill k 0
-      ∙ get_or-replicate n k 0 0 (omega arith)
+      (λ j. get_or block (e j) 0) ∙ grind (arith, get_or_append_left (payload ++ fill) (bytes2 (check_of front)) 0 (i - 8), get_or-append_right payload fill (length payload) (i - 8) 0, length-append payload fill, length-replicate, get_or-replicate)
 
   -- the block of a kind, number, item count and payload passes
-  pub sealed_passed : (due : Due) → kind ≡ due.kind → count ≡ due.count → length payload ≡ due.used → kind < 65536 → b < 65536 → count < 65536 → Passed (block_tests b due block)
+  pub sealed_passed : (due : Due) → kind ≡ (kind_number due.kind) → count ≡ due.count → length payload ≡ due.used → kind < 65536 → b < 65536 → count < 65536 → Passed (block_tests b due block)
   sealed_passed due k c u lk lb lc =
-      let filled = all_counting Passes (λ i. test (eqb (get_or block i 0) 0) _) (8 + due.used) (502 - due.used) (λ i l m. eq-eqb (get_or block i 0) 0 (blank i (omega arith) (omega arith))) in (
-        eq-eqb _ _ (check_front front (bytes2 (check_of front)) long_front ∙ sym stored),
-        (
-          eq-eqb _ _ (half kind lk ∙ k),
-          (
-            eq-eqb _ _ (half b lb),
-            (
-              eq-eqb _ _ (half count lc ∙ c),
-              (eq-eqb (le16 block 6) 0 refl, filled),
-            ),
-          ),
-        ),
-      )
+      let checked = check_front front (bytes2 (check_of front)) long_front ∙ sym stored in
+      let kind_is = half kind lk ∙ k in
+      let number_is = half b lb in
+      let count_is = half count lc ∙ c in
+      let filled = all_counting Passes (λ i. test (eqb (get_or block i 0) 0) _) (8 + due.used) (502 - due.used) (λ i l m. eq-eqb (get_or block i 0) 0 (blank i (omega arith) (omega arith))) in
+      (eq-eqb _ _ checked, (eq-eqb _ _ kind_is, (eq-eqb _ _ number_is, (eq-eqb _ _ count_is, (eq-eqb (le16 block 6) 0 refl, filled)))))
+
+-- payloads of one length are told apart by their blocks
+pub same_payload : (kind b c d : ℕ) (xs ys : List ℕ) → length xs ≤ 502 → length xs ≡ length ys → sealed kind b c xs ≡ sealed kind b d ys → xs ≡ ys
+same_payload kind b c d xs ys room long e =
+    sym (payload_sealed kind b c xs room) ∙ (λ i. take (long i) (drop 8 (e i))) ∙ payload_sealed kind b d ys (omega arith)

@@ -1,11 +1,7 @@
 -- The reader's theorems: accepted and refused files, and one file for each record.
-use Rattle.std.proofs.Common.{◌≡◌, ℕ, ◌-◌, ◌^◌, ◌<◌, true, false, ltb, List, ◌∷◌, length, pos, neg_ℤ, IfOk, None, Ok, Err, Result, sym, refl, ap, ◌∙◌, subst, ⊎_elim, arith}
-use mathlib.Core.Bool.{false≢true}
-use Rattle.std.proofs.ByRecursion.{All-get_or}
-use Rattle.std.proofs.lemmas.List.{get_or_past}
-use Rattle.std.proofs.lemmas.Bool.{and_parts, cases_lt}
-use Rattle.sections.specs.Range.{within}
-use Rattle.sections.specs.Stroke.{reach}
+use Rattle.std.proofs.Common.{◌≡◌, ℕ, true, false, List, ◌∷◌, None, Ok, Err, Result, sym, refl, ap, ◌∙◌, subst, rules}
+use Rattle.std.proofs.lemmas.Result.{IfErr-at_err, IfOk-at_ok}
+use Rattle.std.proofs.lemmas.Bool.{false≢true}
 use Rattle.faults.specs.declared.record.RecordFault.{RecordFault}
 use Rattle.drivefile.specs.Header.{InRange, values_fault}
 use Rattle.drivefile.specs.Exact.{Accepted, Exact, OneFile, Refused, record_of}
@@ -19,12 +15,13 @@ use Rattle.drivefile.specs.File.{file_of}
 use Rattle.drivefile.specs.declared.header.Header.{Header}
 use Rattle.drivefile.proofs.Accepted.{file_passed}
 use Rattle.drivefile.proofs.Apart.{same_record}
-use Rattle.drivefile.proofs.Codings.{Bytes}
+use Rattle.drivefile.proofs.Codings.{Bytes, all_bytes}
 use Rattle.drivefile.proofs.Exact.{file_is, range_is, samples_length, turns_length}
 use Rattle.drivefile.proofs.FileBytes.{file_fit}
 use Rattle.drivefile.proofs.Ordered.{ordered, ordered_err, ordered_ok}
 use Rattle.drivefile.proofs.Rows.{all_split}
 use Rattle.drivefile.proofs.Runs.{Ordered}
+use Rattle.drivefile.proofs.SectionWords.{envelope_in, stroke_in}
 
 -- tests that all pass name no fault
 no_first : (ts : List Test) (f : RecordFault) → Passed ts → FirstOf ts f → ⊥
@@ -37,14 +34,7 @@ passed_known (Err f) ts o p = absurd (no_first ts f p o)
 
 -- the header of the record that a file gives is the one answered
 headed_recorded : (file : List ℕ) (h : Header) → headed (recorded file h) ≡ h
-headed_recorded file h = λ i. record {
-  section = h.section;
-  exponent = h.exponent;
-  network = h.network;
-  workers = h.workers;
-  samples = samples_length file h i;
-  turns = turns_length file h i;
-}
+headed_recorded file h = rw (samples_length file h, turns_length file h) refl
 
 pub accepted : (file : List ℕ) → Bytes file → (h : Header) → reading file ≡ Ok h → Accepted file h (recorded file h)
 accepted file fit h read = record {
@@ -58,28 +48,19 @@ accepted file fit h read = record {
 
 -- the values of a section in range are not at fault
 no_value_at_fault : (s : SectionChoice) → values_in s ≡ true → values_fault s ≡ None
-no_value_at_fault (section.Stroke start lower upper) h =
-    let p = and_parts (within (neg_ℤ (pos reach)) (pos reach) start) _ h in
-    let q = and_parts (within (neg_ℤ (pos reach)) (pos reach) lower) (within lower (pos reach) upper) p.1 in
-    rw (p.0, q.0, q.1) refl
+no_value_at_fault (section.Stroke start lower upper) h = let v = stroke_in start lower upper h in rw (v.start_in, v.lower_in, v.upper_in) refl
 no_value_at_fault (section.Roll start c) h = refl
-no_value_at_fault (section.Envelope start d) h =
-    let p = and_parts (within (neg_ℤ (pos (2 ^ 31))) (pos (2 ^ 31 - 1)) start) (ltb d (2 ^ 31)) h in rw p.1 refl
+no_value_at_fault (section.Envelope start d) h = rw (envelope_in start d h).decay_in refl
 
 -- the header of an accepted file is in range
 pub header_range : (file : List ℕ) (h : Header) (r : DriveRecord) → Accepted file h r → InRange h
 header_range file h r a =
     let p = a.in_range in
-    subst InRange (sym a.header_is)
-    (record {
-      exponent_from = p.exponent_from;
-      exponent_to = p.exponent_to;
-      workers_from = p.workers_from;
-      workers_to = p.workers_to;
-      samples_to = p.samples_to;
-      turns_to = p.turns_to;
-      values_in = no_value_at_fault r.section p.section_values;
-    })
+    let v = no_value_at_fault r.section p.section_values in
+    rw a.header_is (search rules)
+
+pub header_read : (file : List ℕ) → Bytes file → (h : Header) → reading file ≡ Ok h → InRange h
+header_read file fit h read = header_range file h (recorded file h) (accepted file fit h read)
 
 pub refused : (file : List ℕ) (f : RecordFault) → reading file ≡ Err f → Refused file f
 refused file f read = record {
@@ -89,19 +70,12 @@ refused file f read = record {
 }
 
 module _ (r : DriveRecord) (p : RecordRange r) where
-  bytes_of : Bytes (file_of r)
-  bytes_of i =
-      ⊎_elim
-      (λ l. All-get_or (λ b. b < 256) (file_of r) i 0 l (file_fit r p))
-      (λ l. subst (λ b. b < 256) (sym (get_or_past (file_of r) i 0 l)) (omega arith))
-      (cases_lt i (length (file_of r)))
-
   known : (h : Header) × (reading (file_of r) ≡ Ok h)
   known = passed_known (reading (file_of r)) (tests (file_of r)) (ordered (file_of r)) (file_passed r p)
 
   -- what is answered for the file of a record is the record
   same_again : r ≡ recorded (file_of r) known.0
-  same_again = (accepted (file_of r) bytes_of known.0 known.1).no_other r p refl
+  same_again = (accepted (file_of r) (all_bytes (file_of r) (file_fit r p)) known.0 known.1).no_other r p refl
 
   pub read_again : record_of (file_of r) ≡ Ok r
   read_again = ap (λ t. and_then t (λ h. Ok (recorded (file_of r) h))) known.1 ∙ ap Ok (sym same_again)
@@ -111,23 +85,16 @@ one_file = record { bytes = file_fit; read_back = read_again; apart = same_recor
 
 -- what an answer says, for a record that is answered and for a fault
 module _ {T : Type 0} (file : List ℕ) where
-  made_in : (P : T → Type 0) (t : T) → P t → (s : T) → ◌≡◌ {A = Result T RecordFault} (Ok t) (Ok s) → P s
-  made_in P t h s e = subst (λ (r : Result T RecordFault). IfOk r P) e h
-
   pub exact_ok : Bytes file → (header : T → Header) (answered : T → DriveRecord) (t : T) → reading file ≡ Ok (header t) → answered t ≡ recorded file (header t) → Exact file header answered (Ok t)
   exact_ok fit header answered t read same = record {
-    accepted = made_in (λ s. Accepted file (header s) (answered s)) t (rw same (accepted file fit (header t) read));
-    refused = λ f e. absurd (subst (λ (r : Result T RecordFault). IfOk r (λ _. ⊥)) (sym e) tt);
+    accepted = λ s e. IfOk-at_ok (λ s. Accepted file (header s) (answered s)) e (rw same (accepted file fit (header t) read));
+    refused = λ f e. IfErr-at_err (Refused file) e tt;
     one_file = one_file;
   }
 
   pub exact_err : (header : T → Header) (answered : T → DriveRecord) (f : RecordFault) → reading file ≡ Err f → Exact file header answered (Err f)
   exact_err header answered f read = record {
-    accepted = λ t e. absurd (subst (λ (r : Result T RecordFault). IfOk r (λ _. ⊥)) e tt);
-    refused = λ g e. subst (λ (r : Result T RecordFault). faulted r) e (refused file f read);
+    accepted = λ t e. IfOk-at_ok (λ t. Accepted file (header t) (answered t)) e tt;
+    refused = λ g e. IfErr-at_err (Refused file) e (refused file f read);
     one_file = one_file;
   }
-    where
-      faulted : Result T RecordFault → Type 0
-      faulted (Ok t) = Unit {0}
-      faulted (Err g) = Refused file g

@@ -6,6 +6,8 @@ use Rattle.faults.specs.declared.block.Field.TheVariants.{Kind, Number, Count, Z
 use Rattle.drivefile.specs.Bytes.{le16}
 use Rattle.drivefile.specs.Tests.{and_then, expect}
 use Rattle.drivefile.specs.declared.block.Due.{Due}
+use Rattle.drivefile.specs.declared.block.Kind.{Kind as BlockKind}
+use Rattle.drivefile.specs.declared.block.Kind.TheVariants as kind
 
 -- the sum of (i + 1) × w(i) over the first n 16-bit numbers w of a block
 abbrev pub weighted : List ℕ → ℕ → ℕ
@@ -20,10 +22,16 @@ weighted_sum bs = weighted bs 255
 abbrev pub check_of : List ℕ → ℕ
 check_of bs = weighted_sum bs % 65521
 
+-- the kinds of blocks by number
+abbrev pub kind_number : BlockKind → ℕ
+kind_number kind.Header = 1
+kind_number kind.Samples = 2
+kind_number kind.Turns = 3
+
 -- kind, number, item count and the two zero bytes are those due
 abbrev pub frame : ℕ → Due → List ℕ → Result (Unit {0}) BlockFault
 frame b due bs =
-    expect (le16 bs 0 == due.kind) (Frame b Kind)
+    expect (le16 bs 0 == kind_number due.kind) (Frame b Kind)
     (expect (le16 bs 2 == b) (Frame b Number)
     (expect (le16 bs 4 == due.count) (Frame b Count)
     (expect (le16 bs 6 == 0) (Frame b Zero) (Ok tt))))

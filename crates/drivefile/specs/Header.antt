@@ -15,6 +15,7 @@ use Rattle.drivefile.specs.Bytes.{le32}
 use Rattle.drivefile.specs.Tests.{and_then, expect, lifted}
 use Rattle.drivefile.specs.Block.{block_test}
 use Rattle.drivefile.specs.declared.block.Due.{Due}
+use Rattle.drivefile.specs.declared.block.Kind.TheVariants as block_kind
 use Rattle.drivefile.specs.declared.header.Header.{Header}
 use Rattle.drivefile.specs.declared.header.SectionKind.{SectionKind}
 use Rattle.drivefile.specs.declared.header.SectionKind.TheVariants as kind
@@ -93,7 +94,7 @@ header_values blocks bs =
 
 -- kind 1, no items, 24 bytes of payload used
 abbrev pub header_due : Due
-header_due = record { kind = 1; count = 0; used = 24 }
+header_due = record { kind = block_kind.Header; count = 0; used = 24 }
 
 -- the header of a file of so many blocks, from its first block
 abbrev pub header_of : ℕ → List ℕ → Result Header RecordFault

@@ -1,11 +1,10 @@
 -- Where a record's samples and turns lie in its file.
-use Rattle.std.specs.Prelude.{ℕ, ◌+◌, ◌*◌, ◌/◌, ◌%◌, cond, List, ◌++◌, map, length, take, drop, Some, None, Ok, Err, Option, Result, nat_le, nat_lt, slice_index}
+use Rattle.std.specs.Prelude.{ℕ, ◌+◌, ◌*◌, ◌/◌, ◌%◌, cond, List, [], ◌++◌, map, length, drop, Some, None, Ok, Err, Option, Result, nat_le, nat_lt, slice_index, slice_index_or}
 use Rattle.std.specs.List.{range_with_len}
 use Rattle.faults.specs.declared.run.RunFault.{RunFault}
 use Rattle.faults.specs.declared.run.RunFault.TheVariants.{Memory}
 use Rattle.drivefile.specs.Bytes.{le32}
 use Rattle.drivefile.specs.Header.{blocks_for}
-use Rattle.drivefile.specs.Words.{words_from}
 use Rattle.drivefile.specs.declared.header.Header.{Header}
 
 -- sample i: the word i modulo 125 of the payload of block 1 + i / 125
@@ -19,9 +18,16 @@ sample_at file i = le32 file (sample_place i)
 abbrev pub samples_of : List ℕ → ℕ → List ℕ
 samples_of file n = map (sample_at file) (range_with_len 0 n)
 
--- a list with the first n samples of sample block b, counted from 0, at their places
-abbrev pub put_block : List ℕ → ℕ → ℕ → List ℕ → List ℕ
-put_block file b n out = take (125 * b) out ++ (words_from file (512 * (1 + b) + 8) n ++ drop n (drop (125 * b) out))
+-- the words of a block's payload; sample i, and n samples, by the blocks that hold them. For the steps of copying; no public
+-- contract cites these.
+abbrev pub block_words : List ℕ → List ℕ
+block_words bs = map (λ i. le32 bs (8 + 4 * i)) (range_with_len 0 125)
+
+abbrev pub sample_in : List (List ℕ) → ℕ → ℕ
+sample_in blocks i = le32 (slice_index_or blocks (i / 125) []) (8 + 4 * (i % 125))
+
+abbrev pub samples_in : List (List ℕ) → ℕ → List ℕ
+samples_in blocks n = map (sample_in blocks) (range_with_len 0 n)
 
 -- a list is long enough for the samples, or refused
 abbrev pub copying : Header → List ℕ → Result (Unit {0}) RunFault

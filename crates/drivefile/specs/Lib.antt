@@ -4,9 +4,9 @@ pub mod Block
 pub mod Columns
 pub mod Header
 pub mod Items
-pub mod Words
 pub mod Reading
 pub mod Order
 pub mod Record
 pub mod File
 pub mod Exact
+pub mod Names

@@ -13,7 +13,7 @@ use Rattle.faults.specs.declared.record.RecordFault.{RecordFault}
 use Rattle.faults.specs.declared.record.RecordFault.TheVariants as fault
 use Rattle.sections.specs.Range.{within}
 use Rattle.sections.specs.Stroke.{reach}
-use Rattle.drivefile.specs.Block.{check_of}
+use Rattle.drivefile.specs.Block.{check_of, kind_number}
 use Rattle.drivefile.specs.Bytes.{block_at, le16, le32}
 use Rattle.drivefile.specs.Header.{blocks_for, header_due, needed}
 use Rattle.drivefile.specs.Reading.{legal_length, samples_due, turns_due}
@@ -30,7 +30,7 @@ test p f = record { passes = p; names = f }
 abbrev pub block_tests : ℕ → Due → List ℕ → List Test
 block_tests b due bs =
     test (check_of bs == le16 bs 510) (fault.Block (Check b))
-    ∷ test (le16 bs 0 == due.kind) (fault.Block (Frame b Kind))
+    ∷ test (le16 bs 0 == kind_number due.kind) (fault.Block (Frame b Kind))
     ∷ test (le16 bs 2 == b) (fault.Block (Frame b Number))
     ∷ test (le16 bs 4 == due.count) (fault.Block (Frame b Count))
     ∷ test (le16 bs 6 == 0) (fault.Block (Frame b Zero))

@@ -1,5 +1,5 @@
 -- A whole file: its length, its header, then each later block, in the order of the tests.
-use Rattle.std.specs.Prelude.{ℕ, ◌+◌, ◌-◌, ◌*◌, ◌/◌, ◌%◌, min, Bool, cond, ◌&&◌, List, length, Some, None, Ok, Err, Option, Result, ◌==◌, nat_le}
+use Rattle.std.specs.Prelude.{ℕ, ◌+◌, ◌-◌, ◌*◌, ◌/◌, ◌%◌, min, Bool, cond, ◌&&◌, List, [], length, slice_index_or, Some, None, Ok, Err, Option, Result, ◌==◌, nat_le}
 use Rattle.faults.specs.declared.block.BlockFault.TheVariants.{Length}
 use Rattle.faults.specs.declared.record.RecordFault.{RecordFault}
 use Rattle.faults.specs.declared.record.RecordFault.TheVariants.{Block, Worker}
@@ -8,6 +8,7 @@ use Rattle.drivefile.specs.Bytes.{block_at}
 use Rattle.drivefile.specs.Header.{blocks_for, header_of}
 use Rattle.drivefile.specs.Tests.{and_then, each_of, expect, lifted}
 use Rattle.drivefile.specs.declared.block.Due.{Due}
+use Rattle.drivefile.specs.declared.block.Kind.TheVariants as kind
 use Rattle.drivefile.specs.declared.header.Header.{Header}
 
 -- a whole number of blocks, from 1 to 658
@@ -16,11 +17,11 @@ legal_length n = nat_le 1 (n / 512) && (nat_le (n / 512) 658 && n % 512 == 0)
 
 -- kind 2, up to 125 samples of 4 bytes
 abbrev pub samples_due : ℕ → Due
-samples_due count = record { kind = 2; count = count; used = 4 * count }
+samples_due count = record { kind = kind.Samples; count = count; used = 4 * count }
 
 -- kind 3, up to 500 turns of a byte
 abbrev pub turns_due : ℕ → Due
-turns_due count = record { kind = 3; count = count; used = count }
+turns_due count = record { kind = kind.Turns; count = count; used = count }
 
 -- a turn found whose worker is not below W, as a fault
 abbrev pub workers_known : ℕ → Option ℕ → Result (Unit {0}) RecordFault
@@ -48,6 +49,10 @@ later_block h b bs = cond (nat_le b (blocks_for h.samples 125)) (sample_block h 
 -- block b of the file, as it is due there
 abbrev pub later_test : Header → List ℕ → ℕ → Result (Unit {0}) RecordFault
 later_test h file b = later_block h b (block_at file b)
+
+-- every block after the first of a list of blocks, in order
+abbrev pub rest_test : Header → List (List ℕ) → Result (Unit {0}) RecordFault
+rest_test h blocks = each_of (λ b. later_block h b (slice_index_or blocks b [])) 1 (length blocks - 1)
 
 -- the file's header, where every test passes; else the first fault
 abbrev pub reading : List ℕ → Result Header RecordFault

@@ -1,5 +1,6 @@
 // One block: its check, its frame and its filling, each tested in turn.
-ghost use Rattle.std.specs.Prelude.{◌≡◌, ◌+◌, ◌-◌, ◌*◌, ◌^◌, ◌<◌, ◌≤◌, length, is_some};
+ghost use Rattle.std.specs.Prelude.{◌≡◌, ◌+◌, ◌-◌, ◌<◌, ◌≤◌, false, ◌||◌, length, nat_le};
+ghost use Rattle.std.specs.List.{fold, position};
 ghost use Rattle.drivefile.specs.Block.{block_test, filling, first_from, frame};
 
 use crate::bytes::le16;
@@ -9,97 +10,109 @@ use faults::{BlockFault, Field};
 // The bytes of a block.
 pub(crate) const BLOCK: usize = 512;
 
-// Where the payload of block `number` begins in the file.
-pub(crate) fn payload(number: usize) -> usize
-    requires { number < 2 ^ 33 }
-    ensures { result ≡ 512 * number + 8 }
-{
-    BLOCK * number + 8
+// Where a block's payload begins.
+pub(crate) const PAYLOAD: usize = 8;
+
+// What a block holds, by the number that it begins with.
+#[derive(Clone, Copy)]
+pub(crate) enum Kind {
+    Header = 1,
+    Samples = 2,
+    Turns = 3,
 }
 
 // What is due in a block: its kind, its item count, and how many bytes of its payload the items take.
 #[derive(Clone, Copy)]
 pub(crate) struct Due {
-    pub(crate) kind: u32,
+    pub(crate) kind: Kind,
     pub(crate) count: usize,
     pub(crate) used: usize,
 }
 
-// Kind, number, item count and zero bytes are those due.
-fn test_frame(block: &[u8], number: usize, due: Due) -> Result<(), BlockFault>
-    requires { length block.now ≡ 512 }
-    ensures { result ≡ frame number due block.now }
-{
-    let field = if le16(block, 0) != due.kind {
-        Field::Kind
-    } else if le16(block, 2) as usize != number {
-        Field::Number
-    } else if le16(block, 4) as usize != due.count {
-        Field::Count
-    } else if le16(block, 6) != 0 {
-        Field::Zero
-    } else {
-        return Ok(());
-    };
-    Err(BlockFault::Frame {
-        block: number,
-        field,
-    })
+// A block of a file: its number, which is below the most that a file has, and its bytes.
+#[derive(Clone, Copy)]
+pub(crate) struct Block<'a> {
+    pub(crate) number: usize,
+    pub(crate) bytes: &'a [u8; BLOCK],
+    ghost counted: { number < 658 },
 }
 
-// Whether a byte from `from` up to `to` is at or above `limit`. It looks at them all, many at a time.
-fn any_from(block: &[u8], limit: u8, from: usize, to: usize) -> bool
-    requires within { to ≤ length block.now }
-    requires forward { from ≤ to }
-    ensures { result ≡ is_some (first_from limit block.now from (to - from)) }
-{
-    let mut any = false;
-    for i in from..to {
-        any |= block[i] >= limit;
+impl Block<'_> {
+    // Kind, number, item count and zero bytes are those due.
+    fn test_frame(&self, due: Due) -> Result<(), BlockFault>
+        ensures { result ≡ frame self.now.number due self.now.bytes.now }
+    {
+        let bytes = self.bytes;
+        let field = if le16(bytes, 0) != due.kind as u32 {
+            Field::Kind
+        } else if le16(bytes, 2) as usize != self.number {
+            Field::Number
+        } else if le16(bytes, 4) as usize != due.count {
+            Field::Count
+        } else if le16(bytes, 6) != 0 {
+            Field::Zero
+        } else {
+            return Ok(());
+        };
+        Err(BlockFault::Frame {
+            block: self.number,
+            field,
+        })
     }
-    any
+
+    // The payload after the bytes used is zero.
+    fn test_filling(&self, due: Due) -> Result<(), BlockFault>
+        requires { due.used ≤ 502 }
+        ensures { result ≡ filling self.now.number due self.now.bytes.now }
+    {
+        let bytes = self.bytes;
+        match first_from(bytes, 1, PAYLOAD + due.used, 510) {
+            Some(byte) => Err(BlockFault::Filling {
+                block: self.number,
+                byte,
+            }),
+            None => Ok(()),
+        }
+    }
+
+    // The block is framed and filled as is due: check, frame, filling.
+    pub(crate) fn test(&self, due: Due) -> Result<(), BlockFault>
+        requires { due.used ≤ 502 }
+        ensures { result ≡ block_test self.now.number due self.now.bytes.now }
+    {
+        let bytes = self.bytes;
+        if check(bytes) != le16(bytes, 510) {
+            return Err(BlockFault::Check { block: self.number });
+        }
+        self.test_frame(due)?;
+        self.test_filling(due)
+    }
+}
+
+// Whether a byte is at or above `limit`. It looks at them all, many at a time.
+fn any_from(bytes: &[u8], limit: u8) -> bool
+    ensures { result ≡ fold (λ any byte. any || nat_le limit byte) false bytes.now }
+{
+    bytes.iter().fold(false, |any, byte| any | (*byte >= limit))
+}
+
+// Where the first byte at or above `limit` stands.
+fn place_from(bytes: &[u8], limit: u8) -> Option<usize>
+    ensures { result ≡ position (nat_le limit) bytes.now }
+{
+    if any_from(bytes, limit) {
+        bytes.iter().position(|byte| *byte >= limit)
+    } else {
+        None
+    }
 }
 
 // The first place from `from` up to `to` whose byte is at or above `limit`.
-pub(crate) fn first_from(block: &[u8], limit: u8, from: usize, to: usize) -> Option<usize>
-    requires within { to ≤ length block.now }
+pub(crate) fn first_from(bytes: &[u8], limit: u8, from: usize, to: usize) -> Option<usize>
+    requires within { to ≤ length bytes.now }
     requires forward { from ≤ to }
-    ensures { result ≡ first_from limit block.now from (to - from) }
+    ensures { result ≡ first_from limit bytes.now from (to - from) }
 {
-    if any_from(block, limit, from, to) {
-        for i in from..to {
-            if block[i] >= limit {
-                return Some(i);
-            }
-        }
-    }
-    None
-}
-
-// The payload after the bytes used is zero.
-fn test_filling(block: &[u8], number: usize, due: Due) -> Result<(), BlockFault>
-    requires long { length block.now ≡ 512 }
-    requires room { due.used ≤ 502 }
-    ensures { result ≡ filling number due block.now }
-{
-    match first_from(block, 1, 8 + due.used, 510) {
-        Some(byte) => Err(BlockFault::Filling {
-            block: number,
-            byte,
-        }),
-        None => Ok(()),
-    }
-}
-
-// Block `number` is framed and filled as is due: check, frame, filling.
-pub(crate) fn test_block(block: &[u8], number: usize, due: Due) -> Result<(), BlockFault>
-    requires long { length block.now ≡ 512 }
-    requires room { due.used ≤ 502 }
-    ensures { result ≡ block_test number due block.now }
-{
-    if check(block) != le16(block, 510) {
-        return Err(BlockFault::Check { block: number });
-    }
-    test_frame(block, number, due)?;
-    test_filling(block, number, due)
+    let place = place_from(&bytes[from..to], limit)?;
+    Some(from + place)
 }

@@ -1,12 +1,14 @@
 // The header: block 0 of the file, and its values as types.
-ghost use Rattle.std.specs.Prelude.{◌≡◌, ◌+◌, ◌<◌, ◌≤◌, length, IfOk, None, Ok};
-ghost use Rattle.drivefile.specs.Header.{InRange, blocks_for, header_of, header_values, in_range, kind_of, network_of, none_at_fault, section_of, stroke_fault, values_fault, without_second};
+ghost use Rattle.std.specs.Prelude.{◌≡◌, ◌+◌, ◌<◌, ◌≤◌, Some, Ok};
+ghost use Rattle.drivefile.specs.Header.{blocks_for, header_of, header_values, in_range, kind_of, needed, network_of, none_at_fault, section_of, stroke_fault, without_second};
+ghost use Rattle.drivefile.specs.Names.{network_word, section_word};
 
-use crate::block::{Due, test_block};
+use crate::block::{BLOCK, Block, Due, Kind};
 use crate::bytes::le32;
 use faults::{Choice, Counter, RecordFault, Value};
 use sections::envelope::Decay;
 use sections::stroke::{REACH, Stops};
+use std::fmt;
 
 // The most samples, and the most turns, of a record.
 pub const MOST_ITEMS: u32 = 65_536;
@@ -50,24 +52,72 @@ enum SectionKind {
     Envelope,
 }
 
-fn section_kind(byte: u8) -> Result<SectionKind, RecordFault>
-    ensures { result ≡ kind_of byte }
-{
-    match byte {
-        1 => Ok(SectionKind::Stroke),
-        2 => Ok(SectionKind::Roll),
-        3 => Ok(SectionKind::Envelope),
-        _ => Err(RecordFault::Choice(Choice::Section)),
+impl TryFrom<u8> for SectionKind {
+    type Error = RecordFault;
+
+    ghost try_from_gives = { λ byte r. r ≡ kind_of byte };
+
+    fn try_from(byte: u8) -> Result<SectionKind, RecordFault> {
+        match byte {
+            1 => Ok(SectionKind::Stroke),
+            2 => Ok(SectionKind::Roll),
+            3 => Ok(SectionKind::Envelope),
+            _ => Err(RecordFault::Choice(Choice::Section)),
+        }
     }
 }
 
-fn network_choice(byte: u8) -> Result<NetworkChoice, RecordFault>
-    ensures { result ≡ network_of byte }
-{
-    match byte {
-        1 => Ok(NetworkChoice::Serial),
-        2 => Ok(NetworkChoice::KoggeStone),
-        _ => Err(RecordFault::Choice(Choice::Network)),
+impl TryFrom<u8> for NetworkChoice {
+    type Error = RecordFault;
+
+    ghost try_from_gives = { λ byte r. r ≡ network_of byte };
+
+    fn try_from(byte: u8) -> Result<NetworkChoice, RecordFault> {
+        match byte {
+            1 => Ok(NetworkChoice::Serial),
+            2 => Ok(NetworkChoice::KoggeStone),
+            _ => Err(RecordFault::Choice(Choice::Network)),
+        }
+    }
+}
+
+impl fmt::Display for SectionChoice {
+    ghost output = { λ s. Some (section_word s) };
+
+    fn fmt<W: fmt::Write>(&self, f: &mut fmt::Formatter<W>) -> fmt::Result {
+        f.write_str(match self {
+            SectionChoice::Stroke { .. } => "stroke integrator",
+            SectionChoice::Roll { .. } => "roll section",
+            SectionChoice::Envelope { .. } => "thrust envelope",
+        })
+    }
+}
+
+impl fmt::Display for NetworkChoice {
+    ghost output = { λ n. Some (network_word n) };
+
+    fn fmt<W: fmt::Write>(&self, f: &mut fmt::Formatter<W>) -> fmt::Result {
+        f.write_str(match self {
+            NetworkChoice::Serial => "serial",
+            NetworkChoice::KoggeStone => "Kogge-Stone",
+        })
+    }
+}
+
+impl Header {
+    // The blocks that the samples take.
+    pub(crate) fn sample_blocks(self) -> usize
+        ensures value { result ≡ blocks_for self.samples 125 }
+        ensures bound { result ≤ self.samples + 1 }
+    {
+        blocks_for(self.samples, SAMPLES_PER_BLOCK)
+    }
+
+    // The blocks of a record: the header, the samples', the turns'.
+    fn blocks(self) -> usize
+        ensures { result ≡ needed self.samples self.turns }
+    {
+        1 + self.sample_blocks() + blocks_for(self.turns, TURNS_PER_BLOCK)
     }
 }
 
@@ -75,7 +125,7 @@ fn network_choice(byte: u8) -> Result<NetworkChoice, RecordFault>
 fn test_stroke(start: i32, lower: i32, upper: i32) -> Result<(), RecordFault>
     ensures { result ≡ none_at_fault (stroke_fault start lower upper) (Ok tt) }
 {
-    if start < -REACH || start > REACH {
+    if !(-REACH..=REACH).contains(&start) {
         return Err(RecordFault::Value(Value::Start));
     }
     let _ = Stops::new(lower, upper)?;
@@ -84,8 +134,7 @@ fn test_stroke(start: i32, lower: i32, upper: i32) -> Result<(), RecordFault>
 
 // The section, where its start state and its parameters are in range.
 fn in_range(section: SectionChoice) -> Result<SectionChoice, RecordFault>
-    ensures value { result ≡ in_range section }
-    ensures values { IfOk result (λ it. values_fault it ≡ None) }
+    ensures { result ≡ in_range section }
 {
     match section {
         SectionChoice::Stroke {
@@ -103,8 +152,7 @@ fn in_range(section: SectionChoice) -> Result<SectionChoice, RecordFault>
 
 // A section in range that has no second parameter: its place in the header is zero.
 fn without_second(section: SectionChoice, second: u32) -> Result<SectionChoice, RecordFault>
-    ensures value { result ≡ without_second section second }
-    ensures values { IfOk result (λ it. values_fault it ≡ None) }
+    ensures { result ≡ without_second section second }
 {
     let section = in_range(section)?;
     if second != 0 {
@@ -120,8 +168,7 @@ fn section_choice(
     first: u32,
     second: u32,
 ) -> Result<SectionChoice, RecordFault>
-    ensures value { result ≡ section_of kind start first second }
-    ensures values { IfOk result (λ it. values_fault it ≡ None) }
+    ensures { result ≡ section_of kind start first second }
 {
     let signed = start.cast_signed();
     match kind {
@@ -157,57 +204,51 @@ pub(crate) fn blocks_for(items: u32, per: usize) -> usize
 }
 
 // The header's values, in the order of their tests.
-fn header_values(block: &[u8], blocks: usize) -> Result<Header, RecordFault>
-    requires { length block.now ≡ 512 }
-    ensures value { result ≡ header_values blocks block.now }
-    ensures range { IfOk result InRange }
+fn header_values(bytes: &[u8; BLOCK], blocks: usize) -> Result<Header, RecordFault>
+    ensures { result ≡ header_values blocks bytes.now }
 {
-    let kind = section_kind(block[8])?;
-    let exponent = block[9];
-    if exponent < 2 || exponent > 6 {
+    let kind = SectionKind::try_from(bytes[8])?;
+    let exponent = bytes[9];
+    if !(2..=6).contains(&exponent) {
         return Err(RecordFault::Choice(Choice::Exponent));
     }
-    let network = network_choice(block[10])?;
-    let workers = block[11];
-    if workers < 1 || workers > 8 {
+    let network = NetworkChoice::try_from(bytes[10])?;
+    let workers = bytes[11];
+    if !(1..=8).contains(&workers) {
         return Err(RecordFault::Choice(Choice::Workers));
     }
-    let samples = le32(block, 12);
+    let samples = le32(bytes, 12);
     if samples > MOST_ITEMS {
         return Err(RecordFault::Counter(Counter::Samples));
     }
-    let turns = le32(block, 16);
+    let turns = le32(bytes, 16);
     if turns > MOST_ITEMS {
         return Err(RecordFault::Counter(Counter::Turns));
     }
-    let section = section_choice(kind, le32(block, 20), le32(block, 24), le32(block, 28))?;
-    if blocks != 1 + blocks_for(samples, SAMPLES_PER_BLOCK) + blocks_for(turns, TURNS_PER_BLOCK) {
-        return Err(RecordFault::Blocks);
-    }
-    Ok(Header {
+    let section = section_choice(kind, le32(bytes, 20), le32(bytes, 24), le32(bytes, 28))?;
+    let header = Header {
         section,
         exponent,
         network,
         workers,
         samples,
         turns,
-    })
+    };
+    if blocks != header.blocks() {
+        return Err(RecordFault::Blocks);
+    }
+    Ok(header)
 }
 
 // The header of a file of so many blocks, from its first block.
-pub(crate) fn read_header(block: &[u8], blocks: usize) -> Result<Header, RecordFault>
-    requires { length block.now ≡ 512 }
-    ensures value { result ≡ header_of blocks block.now }
-    ensures range { IfOk result InRange }
+pub(crate) fn read_header(bytes: &[u8; BLOCK], blocks: usize) -> Result<Header, RecordFault>
+    ensures { result ≡ header_of blocks bytes.now }
 {
-    test_block(
-        block,
-        0,
-        Due {
-            kind: 1,
-            count: 0,
-            used: 24,
-        },
-    )?;
-    header_values(block, blocks)
+    let block = Block { number: 0, bytes };
+    block.test(Due {
+        kind: Kind::Header,
+        count: 0,
+        used: 24,
+    })?;
+    header_values(bytes, blocks)
 }

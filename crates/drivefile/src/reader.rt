@@ -1,12 +1,11 @@
 // The reader's tests over a whole file: its length, its header, then each later block.
-ghost use Rattle.std.specs.Prelude.{◌≡◌, ◌+◌, ◌-◌, ◌*◌, ◌≤◌, length, IfOk};
-ghost use Rattle.drivefile.specs.Bytes.{block_at};
-ghost use Rattle.drivefile.specs.Header.{InRange};
-ghost use Rattle.drivefile.specs.Reading.{later_block, later_test, legal_length, reading, sample_block, turn_block};
-ghost use Rattle.drivefile.specs.Tests.{each_of};
+ghost use Rattle.std.specs.Prelude.{◌≡◌, ◌+◌, ◌-◌, ◌*◌, ◌/◌, ◌^◌, ◌<◌, ◌≤◌, min, true, false, length, MatchResult};
+ghost use Rattle.std.specs.Simd.{first_chunks};
+ghost use Rattle.drivefile.specs.Reading.{later_block, legal_length, reading, rest_test, sample_block, turn_block};
+ghost use Rattle.faults.specs.declared.block.BlockFault.TheVariants.{Length};
 
-use crate::block::{BLOCK, Due, first_from, test_block};
-use crate::header::{Header, SAMPLES_PER_BLOCK, TURNS_PER_BLOCK, blocks_for, read_header};
+use crate::block::{BLOCK, Block, Due, Kind, PAYLOAD, first_from};
+use crate::header::{Header, SAMPLES_PER_BLOCK, TURNS_PER_BLOCK, read_header};
 use faults::{BlockFault, RecordFault};
 
 // The blocks of the longest record: the header, 525 of samples and 132 of turns.
@@ -15,112 +14,93 @@ const MOST_BLOCKS: usize = 658;
 // The bytes of the longest file.
 pub const MOST_BYTES: usize = 336_896;
 
-// A whole number of blocks, from 1 to the most that a record takes.
-fn legal_length(bytes: usize) -> bool
-    ensures { result ≡ legal_length bytes }
+// The blocks of a file: a whole number of them, from 1 to the most that a record takes.
+fn blocks_of(file: &[u8]) -> Result<&[[u8; BLOCK]], BlockFault>
+    ensures { MatchResult result (λ it. (legal_length (length file.now) ≡ true) × (it.now ≡ first_chunks 512 (length file.now / 512) file.now)) (λ fault. (legal_length (length file.now) ≡ false) × (fault ≡ Length)) }
 {
-    let blocks = bytes / BLOCK;
-    1 <= blocks && blocks <= MOST_BLOCKS && bytes % BLOCK == 0
+    match file.as_chunks() {
+        (blocks, []) if (1..=MOST_BLOCKS).contains(&blocks.len()) => Ok(blocks),
+        _ => Err(BlockFault::Length),
+    }
 }
 
-// Block `number` of the file.
-fn block_of(file: &[u8], number: usize) -> &[u8]
-    requires within { 512 * number + 512 ≤ length file.now }
-    requires small { number ≤ 658 }
-    ensures value { result.now ≡ block_at file.now number }
-    ensures long { length result.now ≡ 512 }
+// How many of so many items lie in the block that comes after `before` blocks of them, `per` a block.
+fn items_in(items: u32, per: usize, before: usize) -> usize
+    requires { per * before < 2 ^ 63 }
+    ensures { result ≡ min per (items - per * before) }
 {
-    &file[BLOCK * number..BLOCK * number + BLOCK]
+    per.min((items as usize).saturating_sub(per * before))
 }
 
-// Block `number` of the file, which holds samples.
-fn test_samples(block: &[u8], number: usize, header: Header) -> Result<(), RecordFault>
-    requires long { length block.now ≡ 512 }
-    requires low { 1 ≤ number }
-    requires high { number ≤ 658 }
-    ensures { result ≡ sample_block header number block.now }
+// A block of samples.
+fn test_samples(block: &Block, header: Header) -> Result<(), RecordFault>
+    ensures { result ≡ sample_block header block.now.number block.now.bytes.now }
 {
-    let count = SAMPLES_PER_BLOCK.min(
-        (header.samples as usize).saturating_sub(SAMPLES_PER_BLOCK * (number - 1)),
+    let count = items_in(
+        header.samples,
+        SAMPLES_PER_BLOCK,
+        block.number.saturating_sub(1),
     );
-    test_block(
-        block,
-        number,
-        Due {
-            kind: 2,
-            count,
-            used: 4 * count,
-        },
-    )?;
+    block.test(Due {
+        kind: Kind::Samples,
+        count,
+        used: 4 * count,
+    })?;
     Ok(())
 }
 
-// Block `number` of the file, which holds turns: each names a worker below W.
-fn test_turns(block: &[u8], number: usize, header: Header) -> Result<(), RecordFault>
-    requires long { length block.now ≡ 512 }
-    requires low { 1 ≤ number }
-    requires high { number ≤ 658 }
-    ensures { result ≡ turn_block header number block.now }
+// A block of turns: each names a worker below W.
+fn test_turns(block: &Block, header: Header) -> Result<(), RecordFault>
+    ensures { result ≡ turn_block header block.now.number block.now.bytes.now }
 {
-    let before = number.saturating_sub(1 + blocks_for(header.samples, SAMPLES_PER_BLOCK));
-    let count = TURNS_PER_BLOCK.min(
-        (header.turns as usize).saturating_sub(TURNS_PER_BLOCK * before),
-    );
-    test_block(
-        block,
-        number,
-        Due {
-            kind: 3,
-            count,
-            used: count,
-        },
-    )?;
-    match first_from(block, header.workers, 8, 8 + count) {
+    let before = block.number.saturating_sub(1 + header.sample_blocks());
+    let count = items_in(header.turns, TURNS_PER_BLOCK, before);
+    block.test(Due {
+        kind: Kind::Turns,
+        count,
+        used: count,
+    })?;
+    let bytes = block.bytes;
+    match first_from(bytes, header.workers, PAYLOAD, PAYLOAD + count) {
         Some(byte) => Err(RecordFault::Worker {
-            block: number,
+            block: block.number,
             byte,
         }),
         None => Ok(()),
     }
 }
 
-// Block `number`, after the header: the samples' blocks come first.
-fn test_later(block: &[u8], number: usize, header: Header) -> Result<(), RecordFault>
-    requires long { length block.now ≡ 512 }
-    requires low { 1 ≤ number }
-    requires high { number ≤ 658 }
-    ensures { result ≡ later_block header number block.now }
+// A block after the header: the samples' blocks come first.
+fn test_later(block: &Block, header: Header) -> Result<(), RecordFault>
+    ensures { result ≡ later_block header block.now.number block.now.bytes.now }
 {
-    if number <= blocks_for(header.samples, SAMPLES_PER_BLOCK) {
-        test_samples(block, number, header)
+    if block.number <= header.sample_blocks() {
+        test_samples(block, header)
     } else {
-        test_turns(block, number, header)
+        test_turns(block, header)
     }
 }
 
 // Every block after the header, in order.
-fn test_rest(file: &[u8], blocks: usize, header: Header) -> Result<(), RecordFault>
-    requires long { length file.now ≡ 512 * blocks }
-    requires some { 1 ≤ blocks }
-    requires most { blocks ≤ 658 }
-    ensures { result ≡ each_of (later_test header file.now) 1 (blocks - 1) }
+fn test_rest(blocks: &[[u8; BLOCK]], header: Header) -> Result<(), RecordFault>
+    requires some { 1 ≤ length blocks.now }
+    requires most { length blocks.now ≤ 658 }
+    ensures { result ≡ rest_test header blocks.now }
 {
-    for number in 1..blocks {
-        test_later(block_of(file, number), number, header)?;
+    let rest = &blocks[1..];
+    for (i, bytes) in rest.iter().enumerate() {
+        let number = i + 1;
+        test_later(&Block { number, bytes }, header)?;
     }
     Ok(())
 }
 
 // The header of a file that passes every test, or the first fault.
 pub(crate) fn test_file(file: &[u8]) -> Result<Header, RecordFault>
-    ensures value { result ≡ reading file.now }
-    ensures range { IfOk result InRange }
+    ensures { result ≡ reading file.now }
 {
-    if !legal_length(file.len()) {
-        return Err(RecordFault::Block(BlockFault::Length));
-    }
-    let blocks = file.len() / BLOCK;
-    let header = read_header(block_of(file, 0), blocks)?;
-    test_rest(file, blocks, header)?;
+    let blocks = blocks_of(file)?;
+    let header = read_header(&blocks[0], blocks.len())?;
+    test_rest(blocks, header)?;
     Ok(header)
 }

@@ -1,15 +1,15 @@
 // A record: a drive file that passed every test, borrowed, with its header's values.
-ghost use Rattle.std.specs.Prelude.{◌≡◌, ◌^◌, ◌<◌, IfOk, Ok, Err, MatchResult};
+ghost use Rattle.std.specs.Prelude.{◌≡◌, ◌/◌, length, IfOk, Ok, Err, MatchResult};
+ghost use Rattle.std.specs.Simd.{first_chunks};
 ghost use Rattle.drivefile.specs.Exact.{Exact};
-ghost use Rattle.drivefile.specs.Header.{InRange};
-ghost use Rattle.drivefile.specs.Items.{copied, copying, turn_at, turn_place};
+ghost use Rattle.drivefile.specs.Header.{InRange, needed};
+ghost use Rattle.drivefile.specs.Items.{copied, copying, turn_at};
 ghost use Rattle.drivefile.specs.Reading.{reading};
 ghost use Rattle.drivefile.specs.Record.{copied_record, copying_record, recorded, turn_of};
 
-use crate::block::{BLOCK, payload};
-use crate::bytes::byte_at;
-use crate::copying::copy_all;
-use crate::header::{Header, SAMPLES_PER_BLOCK, TURNS_PER_BLOCK, blocks_for};
+use crate::block::{BLOCK, PAYLOAD};
+use crate::copying::copy_samples;
+use crate::header::{Header, TURNS_PER_BLOCK};
 use crate::reader::test_file;
 use faults::{RecordFault, RunFault};
 
@@ -17,6 +17,8 @@ use faults::{RecordFault, RunFault};
 pub struct Record<'a> {
     file: &'a [u8],
     header: Header,
+    ghost is_read: { reading file.now ≡ Ok header },
+    ghost in_range: { InRange header },
 }
 
 impl<'a> Record<'a> {
@@ -40,39 +42,41 @@ impl<'a> Record<'a> {
 
     // Copies the samples to the front of `out` and leaves the rest; refuses a list that is too short. `of_record` and
     // `after_of_record` say the same of the record's own list of samples.
+    #[tactic(auto, using(crate::proofs::Calls::counts))]
     pub fn samples(&self, out: &mut [u32]) -> Result<(), RunFault>
         ensures value { result ≡ copying self.now.header out.old }
         ensures after { out.new ≡ copied self.now.header self.now.file.now out.old }
         ensures of_record { result ≡ copying_record (recorded self.now.file.now self.now.header) out.old }
         ensures after_of_record { out.new ≡ copied_record (recorded self.now.file.now self.now.header) out.old }
     {
-        copy_all(self.file, self.header.samples, out)
+        let count = self.header.samples as usize;
+        if out.len() < count {
+            return Err(RunFault::Memory);
+        }
+        let blocks = &self.blocks()[1..1 + self.header.sample_blocks()];
+        copy_samples(blocks, &mut out[..count]);
+        Ok(())
     }
 
     // The worker of a turn by its number from 0, or none. `of_record` says the same of the record's own list of turns.
+    #[tactic(auto, using(crate::proofs::Calls::counts))]
     pub fn turn(&self, number: usize) -> Option<u8>
         ensures value { result ≡ turn_at self.now.file.now self.now.header number }
         ensures of_record { result ≡ turn_of (recorded self.now.file.now self.now.header) number }
     {
-        turn_in(self.file, self.header, number)
+        if number >= self.header.turns as usize {
+            return None;
+        }
+        let block = 1 + self.header.sample_blocks() + number / TURNS_PER_BLOCK;
+        Some(self.blocks()[block][PAYLOAD + number % TURNS_PER_BLOCK])
     }
-}
 
-// The worker of a turn of the file, where the header counts it.
-fn turn_in(file: &[u8], header: Header, number: usize) -> Option<u8>
-    ensures { result ≡ turn_at file.now header number }
-{
-    if number >= header.turns as usize {
-        return None;
+    // The blocks of the file.
+    #[tactic(auto, using(crate::proofs::Counted::counted))]
+    fn blocks(&self) -> &'a [[u8; BLOCK]]
+        ensures value { result.now ≡ first_chunks 512 (length self.now.file.now / 512) self.now.file.now }
+        ensures count { length result.now ≡ needed self.now.header.samples self.now.header.turns }
+    {
+        self.file.as_chunks().0
     }
-    Some(byte_at(file, turn_place(header.samples, number)))
-}
-
-// Where a turn lies in a file of so many samples: each full block of turns before it has 12 bytes that are no turns.
-fn turn_place(samples: u32, number: usize) -> usize
-    requires { number < 2 ^ 32 }
-    ensures { result ≡ turn_place samples number }
-{
-    let first = payload(1 + blocks_for(samples, SAMPLES_PER_BLOCK));
-    first + number + (BLOCK - TURNS_PER_BLOCK) * (number / TURNS_PER_BLOCK)
 }

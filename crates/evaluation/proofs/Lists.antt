@@ -1,6 +1,5 @@
 -- The list of words after an evaluation: the samples are copied to its front, then replaced by their words.
-use Rattle.std.proofs.Common.{◌≡◌, ℕ, ◌-◌, Bool, true, false, cond, leb, List, ◌++◌, length, take, drop, Ok, Err, refl, ◌∙◌, arith}
-use borrow.Rule.Slice.PartMut.{post_of}
+use Rattle.std.proofs.Common.{◌≡◌, ℕ, Bool, true, false, cond, leb, List, ◌++◌, length, take, drop, Ok, Err, refl, ap, ◌∙◌, arith}
 use Rattle.std.proofs.lemmas.List.FromFn.{length-map-range_with_len}
 use Rattle.std.proofs.lemmas.List.{drop_at, take_at}
 use Rattle.faults.specs.declared.run.RunFault.{RunFault}
@@ -17,13 +16,12 @@ module _ (h : Header) (out : List ℕ) (room : Ok tt ≡ copying h out) where
   long_enough = passed (leb h.samples (length out)) _ tt room
 
   -- the words in the place of the samples, and the places after them
-  pub words_left : (file mid ws : List ℕ) → mid ≡ copied h file out → ws ≡ section_words h.section (take (h.samples - 0) mid)
-      → ws ++ post_of 0 (h.samples - 0) mid ≡ worded h file out
+  pub words_left : (file mid ws : List ℕ) → mid ≡ copied h file out → ws ≡ section_words h.section (take h.samples mid)
+      → ws ++ drop h.samples mid ≡ worded h file out
   words_left file mid ws mid_is ws_is =
       let n = h.samples in
-      let whole : n - 0 ≡ n = omega arith in
       let filled : mid ≡ samples_of file n ++ drop n out = rw long_enough at mid_is in
       let long = length-map-range_with_len (sample_at file) 0 n in
-      let front : take (n - 0) mid ≡ samples_of file n = (λ i. take (whole i) (filled i)) ∙ take_at (samples_of file n) (drop n out) n long in
-      let back : drop (n - 0) mid ≡ drop n out = (λ i. drop (whole i) (filled i)) ∙ drop_at (samples_of file n) (drop n out) n long in
-      rw long_enough ((λ i. ws_is i ++ drop (n - 0) mid) ∙ (λ i. section_words h.section (front i) ++ back i))
+      let front : take n mid ≡ samples_of file n = ap (take n) filled ∙ take_at (samples_of file n) (drop n out) n long in
+      let back : drop n mid ≡ drop n out = ap (drop n) filled ∙ drop_at (samples_of file n) (drop n out) n long in
+      rw long_enough ((λ i. ws_is i ++ drop n mid) ∙ (λ i. section_words h.section (front i) ++ back i))

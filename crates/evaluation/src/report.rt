@@ -4,10 +4,10 @@ ghost use Rattle.std.specs.Fmt.{signed_decimal};
 ghost use Rattle.sections.specs.Meaning.{number_of};
 ghost use Rattle.drivefile.specs.Reading.{reading};
 ghost use Rattle.evaluation.specs.Evaluated.{left_in};
-ghost use Rattle.evaluation.specs.Words.{heading_words, network_word, read_signed, section_word, width_of};
+ghost use Rattle.evaluation.specs.Words.{heading_words, read_signed, width_of};
 
 use crate::words::evaluate;
-use drivefile::{Header, NetworkChoice, SectionChoice};
+use drivefile::{Header, SectionChoice};
 use sections::envelope::Envelope;
 use sections::roll::Roll;
 use sections::section::number;
@@ -32,12 +32,15 @@ impl fmt::Display for Heading {
     ghost output = { λ h. Some (heading_words h.header) };
 
     fn fmt<W: fmt::Write>(&self, f: &mut fmt::Formatter<W>) -> fmt::Result {
-        let section = section_name(self.header.section);
-        let network = network_name(self.header.network);
-        let width = tile_width(self.header.exponent);
-        let workers = self.header.workers;
-        let samples = self.header.samples;
-        let turns = self.header.turns;
+        let Header {
+            section,
+            exponent,
+            network,
+            workers,
+            samples,
+            turns,
+        } = self.header;
+        let width = tile_width(exponent);
         write!(
             f,
             "{section}, tile width {width}, {network} network, workers {workers}, samples {samples}, turns {turns}"
@@ -49,28 +52,8 @@ impl fmt::Display for Line {
     ghost output = { λ l. Some (codes "out " ++ (decimal l.sample ++ (codes " " ++ signed_decimal l.number))) };
 
     fn fmt<W: fmt::Write>(&self, f: &mut fmt::Formatter<W>) -> fmt::Result {
-        let sample = self.sample;
-        let number = self.number;
+        let Line { sample, number } = *self;
         write!(f, "out {sample} {number}")
-    }
-}
-
-fn section_name(section: SectionChoice) -> &'static str
-    ensures { result.now ≡ section_word section }
-{
-    match section {
-        SectionChoice::Stroke { .. } => "stroke integrator",
-        SectionChoice::Roll { .. } => "roll section",
-        SectionChoice::Envelope { .. } => "thrust envelope",
-    }
-}
-
-fn network_name(network: NetworkChoice) -> &'static str
-    ensures { result.now ≡ network_word network }
-{
-    match network {
-        NetworkChoice::Serial => "serial",
-        NetworkChoice::KoggeStone => "Kogge-Stone",
     }
 }
 
@@ -78,7 +61,7 @@ fn network_name(network: NetworkChoice) -> &'static str
 fn tile_width(exponent: u8) -> u32
     ensures { result ≡ width_of exponent }
 {
-    if exponent < 32 { 1 << exponent } else { 0 }
+    1_u32.checked_shl(u32::from(exponent)).unwrap_or(0)
 }
 
 // A word as the chosen section reads it.

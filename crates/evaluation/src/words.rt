@@ -40,13 +40,12 @@ fn run_section(section: SectionChoice, samples: &mut [u32]) -> Result<(), Record
 
 // Puts a record's words at the front of `out`.
 fn put_words(source: &Record, out: &mut [u32]) -> Result<(), RunFault>
-    requires { values_fault source.now.header.section ≡ None }
     ensures value { result ≡ copying source.now.header out.old }
     ensures after { out.new ≡ worded source.now.header source.now.file.now out.old }
 {
     source.samples(out)?;
     let header = source.header();
-    run_section(header.section, &mut out[0..header.samples as usize])?;
+    run_section(header.section, &mut out[..header.samples as usize])?;
     Ok(())
 }
 

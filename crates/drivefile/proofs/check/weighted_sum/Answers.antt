@@ -1,43 +1,27 @@
-use Rattle.std.proofs.Common.{◌≡◌, ℕ, ◌+◌, ◌-◌, ◌*◌, get_or, refl, subst, arith}
-use Rattle.drivefile.specs.Columns.{Summed}
-use Rattle.drivefile.proofs.Columns.{Column, column_at, lanes, lanes_more, lanes_none, lanes_whole}
+use Rattle.std.proofs.Common.{refl, arith}
+use Rattle.std.proofs.lemmas.Grind.{common_steps}
+use Rattle.drivefile.proofs.Columns.{column_fits, column_more, lanes, number_at, whole_column, whole_sum}
 use Rattle.drivefile.proofs.check.weighted_sum.Goals as goal
-use Rattle.drivefile.proofs.check.weighted_sum.Goals.{In-loop-j}
 
-pub loop-row-init : goal.loop-row-init
-loop-row-init c = (record { sums_are = refl; totals_are = refl }, λ past. absurd (omega arith))
-
-pub loop-row-preserved : goal.loop-row-preserved
-loop-row-preserved c =
-    let all = c.add_row.ensures in
-    (all, λ past. let e : c.loop-row.row + 1 ≡ 32 = omega arith in subst (λ (k : ℕ). Summed c.args.block.now k c.add_row.new.sums c.add_row.new.totals) e all)
-
--- column j of the second loop
-here : (c : In-loop-j) → Column c.args.block.now c.loop-j.j (get_or c.loop-row.sums c.loop-j.j 0) (get_or c.loop-row.totals c.loop-j.j 0)
-here c = column_at c.args.block.now c.loop-row.sums c.loop-row.totals c.loop-j.j c.type_inv.block (c.loop-row.invariant.1 c.loop-row-test.false) c.loop-j-test.true
-
-pub overflow_mul-sum : goal.overflow_mul-sum
-overflow_mul-sum c =
-    let k = column_at c.args.block.now c.loop-row.sums c.loop-row.totals c.loop-j.j c.type_inv.block (c.loop-row.invariant.1 c.loop-row-test.false) c.loop-j-test.true in
-    omega (arith, k.most)
-
-pub overflow_mul-sum-in-loop-j : goal.overflow_mul-sum-in-loop-j
-overflow_mul-sum-in-loop-j c = let k = here c in omega (arith, k.parts, k.most)
-
-pub overflow_sub-sum : goal.overflow_sub-sum
-overflow_sub-sum c = let k = here c in omega (arith, k.parts)
-
-pub overflow_add-sum-in-loop-j : goal.overflow_add-sum-in-loop-j
-overflow_add-sum-in-loop-j c = let k = here c in omega (arith, k.parts, k.lane_most, c.loop-j.invariant.1)
-
-pub loop-j-init : goal.loop-j-init
-loop-j-init c = (lanes_none c.args.block.now 32, omega arith, λ past. absurd (omega arith))
+pub add-requires : goal.add-requires
+add-requires c =
+    let fits = column_fits c.args.block.now c.fits-block c.loop-row.row-index c.loop-j.j (omega arith) in
+    grind (arith, common_steps)
 
 pub loop-j-preserved : goal.loop-j-preserved
 loop-j-preserved c =
-    let k = here c in
-    let e = lanes_more c.args.block.now 32 c.loop-j.j in
-    let sum : c.loop-j.sum + ((257 + c.loop-j.j) * get_or c.loop-row.sums c.loop-j.j 0 - 8 * get_or c.loop-row.totals c.loop-j.j 0) ≡ lanes c.args.block.now 32 (c.loop-j.j + 1) =
-    omega (arith, k.parts, e, c.loop-j.invariant.0)
-    in
-    (sum, omega (arith, k.parts, k.lane_most, c.loop-j.invariant.1), λ past. lanes_whole c.args.block.now (c.loop-j.j + 1) _ (omega arith) sum)
+    let number = number_at c.args.block.now c.as_chunks.result.0.now c.loop-row.row-index c.loop-j.j c.told-block c.as_chunks.ensures.front (omega arith) c.loop-j-test.true in
+    grind (arith, common_steps, column_more)
+
+pub loop-j-2-init : goal.loop-j-2-init
+unfolding lanes
+loop-j-2-init c = record {
+  summed = refl;
+  whole = λ i h. whole_column c.args.block.now c.loop-row.row-index i _ c.fits-block (omega arith) h (c.loop-row.invariant.summed i h);
+}
+
+pub overflow_sub-result : goal.overflow_sub-result
+overflow_sub-result c = omega (arith, whole_sum)
+
+pub returns : goal.returns
+returns c = omega (arith, whole_sum)

@@ -1,27 +1,40 @@
-use Rattle.std.proofs.Common.{◌+◌, ◌-◌, ◌*◌, min, ◌∙◌, arith}
-use Rattle.drivefile.specs.Items.{sample_at}
-use Rattle.drivefile.proofs.Rounds.{block_next, whole_front}
+use Rattle.std.proofs.Common.{◌≡◌, length, ◌+◌, ◌-◌, ◌*◌, ◌<◌, ◌/◌, [], get_or, sym, refl, subst, ap, ◌∙◌, arith, take, drop}
+use Rattle.std.proofs.lemmas.List.{get_or-take, length-drop, length-take, take_all}
+use Rattle.std.proofs.lemmas.List.FromFn.{fill_by_all}
+use Rattle.drivefile.specs.Items.{block_words, sample_in, samples_in}
+use Rattle.drivefile.proofs.Rounds.{Copied, copied_last, copied_more}
 use Rattle.drivefile.proofs.copying.copy_samples.Goals as goal
 
-pub loop-block-preserved : goal.loop-block-preserved
-loop-block-preserved c =
-    c.copy_block.ensures
-    ∙ block_next c.args.file.now c.args.out.now c.loop-block.out c.loop-block.block 125 (125 * (c.loop-block.block + 1)) (omega arith) (omega arith) c.loop-block.invariant
+pub loop-number-preserved : goal.loop-number-preserved
+loop-number-preserved c =
+    let blocks = c.args.blocks.now in
+    let b = c.loop-number.number in
+    let full = length c.args.out.now / 125 in
+    let within : b < full = omega (arith, c.loop-number-test.true, length-take full blocks) in
+    let words = block_words (get_or blocks b []) in
+    copied_more blocks c.loop-number.out c.copy_from_slice.new.self b _ 125 (omega arith) (omega (arith, within, c.loop-number.auto.out))
+    (c.copy_from_slice.ensures.after ∙ c.block_words.ensures ∙ ap block_words (get_or-take full blocks b [] within) ∙ sym (take_all 125 words (omega arith)))
+    c.loop-number.invariant (125 * (b + 1)) (omega arith)
 
-pub loop-block-2-init : goal.loop-block-2-init
-loop-block-2-init c d h =
-    whole_front (sample_at c.args.file.now) d c.loop-block.out (125 * c.whole_blocks-whole.result) (min c.args.count (125 * c.whole_blocks-whole.result)) (omega arith) h
+pub returns-in-Some : goal.returns-in-Some
+returns-in-Some c =
+    let blocks = c.args.blocks.now in
+    let out = c.loop-number.out in
+    let full = length c.args.out.now / 125 in
+    let long = c.loop-number.auto.out in
+    let rest = length out - 125 * full in
+    let all : c.loop-number.number ≡ full = omega (arith, c.requires, c.loop-number.auto.number-end, c.loop-number-test.false, length-take full blocks) in
+    let count : length (take rest (drop (125 * full) out)) ≡ rest = omega (arith, length-take rest (drop (125 * full) out), length-drop (125 * full) out) in
+    copied_last blocks out c.copy_from_slice-in-Some.new.self full rest rest (omega (arith, long)) (omega (arith, long))
+    (c.copy_from_slice-in-Some.ensures.after
+    ∙ ap (λ k. take k c.block_words-in-Some.result) count
+    ∙ ap (take rest) (c.block_words-in-Some.ensures ∙ ap block_words (c.in-Some.ensures.lookup.3.1 [])))
+    (subst (λ b. Copied blocks out (125 * b)) all c.loop-number.invariant) (omega (arith, long)) refl
+    ∙ ap (samples_in blocks) long
 
-pub loop-block-2-preserved : goal.loop-block-2-preserved
-loop-block-2-preserved c d h =
-    let b = c.loop-block-2.block in
-    let before = whole_front (sample_at c.args.file.now) d c.loop-block-2.out (min c.args.count (125 * b)) (125 * b) (omega arith) (c.loop-block-2.invariant d h) in
-    c.copy_part.ensures
-    ∙ block_next c.args.file.now d c.loop-block-2.out b (min 125 (c.args.count - 125 * b)) (min c.args.count (125 * (b + 1))) (omega arith) (omega arith) before
-
-pub returns : goal.returns
-returns c =
-    let f = sample_at c.args.file.now in
-    let d = c.args.out.now in
-    let whole = whole_front f d c.loop-block.out (125 * c.loop-block.block) (125 * c.whole_blocks-whole.result) (omega arith) c.loop-block.invariant in
-    whole_front f d c.loop-block-2.out (min c.args.count (125 * c.loop-block-2.block)) c.args.count (omega arith) (c.loop-block-2.invariant d whole)
+pub returns-in_default : goal.returns-in_default
+returns-in_default c =
+    let blocks = c.args.blocks.now in
+    let full = length c.args.out.now / 125 in
+    let whole : 125 * c.loop-number.number ≡ length c.args.out.now = omega (arith, c.requires, c.in_default.ensures.lookup.3, c.loop-number.auto.number-end, c.loop-number-test.false, length-take full blocks) in
+    fill_by_all (sample_in blocks) c.loop-number.out (length c.args.out.now) 0 c.loop-number.auto.out (λ k less. c.loop-number.invariant k (omega (arith, whole, less)))

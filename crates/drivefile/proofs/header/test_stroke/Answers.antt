@@ -1,25 +1,29 @@
-use Rattle.std.proofs.Common.{◌≡◌, true, pos, neg_ℤ, sym, arith, w32}
-use Rattle.std.proofs.lemmas.Result.{err_from_is_err_and}
+use Rattle.std.proofs.Common.{◌≡◌, true, ℤ, pos, neg_ℤ, Some, None, Ok, Option, Result, is_le, int_cmp, refl, w32, arith, rules}
+use Rattle.std.proofs.lemmas.Grind.{common_steps}
 use Rattle.std.proofs.lemmas.Int.{ints, to_z-of_z}
+use Rattle.faults.specs.declared.record.Value.{Value}
+use Rattle.faults.specs.declared.record.RecordFault.{RecordFault}
+use Rattle.sections.specs.Made.{Made}
 use Rattle.sections.specs.Range.{within}
-use Rattle.sections.specs.Stroke.{reach, stops_fault}
-use Rattle.sections.specs.Ranges.{true_within}
-use Rattle.drivefile.proofs.Values.{named_fault, no_fault}
+use Rattle.sections.specs.Stroke.{reach}
+use Rattle.drivefile.specs.Header.{none_at_fault}
 use Rattle.drivefile.proofs.header.test_stroke.Goals as goal
 
+-- where no parameter is refused, the definition goes on
+no_fault : {T U : Type 0} (o : Option Value) (t : T) (P : T → Type 0) (rest : Result U RecordFault) → Made o (Ok t) P → none_at_fault o rest ≡ rest
+no_fault None t P rest h = refl
+no_fault (Some v) t P rest h = absurd h
+
+-- a number that the range test lets through is within
+within_range : (low high x : ℤ) → is_le (int_cmp low x) ≡ true → is_le (int_cmp x high) ≡ true → within low high x ≡ true
+within_range low high x l h = grind (arith, ints)
+
 pub returns-in_err-new : goal.returns-in_err-new
-returns-in_err-new c =
-    let p = err_from_is_err_and c.from_residual.result c.from_residual.ensures.1 in
-    let l = to_z-of_z w32 c.args.lower c.ranges.lower in
-    let u = to_z-of_z w32 c.args.upper c.ranges.upper in
-    let h = simp (l, u) at c.in_err-new.ensures in
-    let w : within (neg_ℤ (pos reach)) (pos reach) c.args.start ≡ true = true_within (neg_ℤ (pos reach)) (pos reach) c.args.start (record { from = omega (arith, ints); to = omega (arith, ints) }) in
-    rw (p.1, p.2, w) (sym (named_fault (stops_fault c.args.lower c.args.upper) _ _ _ h))
+returns-in_err-new c = grind (arith, common_steps)
 
 pub returns : goal.returns
 returns c =
-    let l = to_z-of_z w32 c.args.lower c.ranges.lower in
-    let u = to_z-of_z w32 c.args.upper c.ranges.upper in
-    let h = simp (l, u) at c.in_ok-new.ensures in
-    let w : within (neg_ℤ (pos reach)) (pos reach) c.args.start ≡ true = true_within (neg_ℤ (pos reach)) (pos reach) c.args.start (record { from = omega (arith, ints); to = omega (arith, ints) }) in
-    rw w (sym (no_fault (stops_fault c.args.lower c.args.upper) _ _ _ h))
+    let h = simp (to_z-of_z w32 c.args.lower c.ranges.lower, to_z-of_z w32 c.args.upper c.ranges.upper) at c.in_ok-new.ensures in
+    let r = simp (to_z-of_z w32 c.args.start c.ranges.start, c.new.ensures.start, c.new.ensures.end) at c.if-not-contains.ensures.cases in
+    let w = within_range (neg_ℤ (pos reach)) (pos reach) c.args.start r.0 r.1 in
+    search (rules, no_fault)

@@ -1,8 +1,9 @@
-use Rattle.std.proofs.Common.{◌≡◌, ◌-◌}
-use Rattle.drivefile.specs.Reading.{later_test}
+use Rattle.std.proofs.Common.{◌≡◌, ◌+◌, ◌-◌, [], length, slice_index_or}
+use Rattle.drivefile.specs.Reading.{later_block, rest_test}
 use Rattle.drivefile.specs.Tests.{each_of}
 use Rattle.drivefile.proofs.reader.test_rest.Given as goal
 
 -- the blocks that are left give the answer of them all
-abbrev pub invariant-loop-number : goal.invariant-loop-number
-invariant-loop-number l = each_of (later_test l.header l.file) l.number (l.blocks - l.number) ≡ each_of (later_test l.header l.file) 1 (l.blocks - 1)
+abbrev pub invariant-loop-i : goal.invariant-loop-i
+invariant-loop-i l =
+    each_of (λ b. later_block l.header b (slice_index_or l.blocks b [])) (l.i + 1) (length l.blocks - (l.i + 1)) ≡ rest_test l.header l.blocks

@@ -1,8 +1,0 @@
-use Rattle.std.proofs.Common.{◌≡◌, ◌++◌, map, drop, replicate}
-use Rattle.std.specs.List.{range_with_len}
-use Rattle.drivefile.specs.Words.{word_from}
-use Rattle.drivefile.proofs.copying.block_words.Given as goal
-
--- the words so far, over zeros
-abbrev pub invariant-loop-i : goal.invariant-loop-i
-invariant-loop-i l = l.words ≡ map (word_from l.file l.place) (range_with_len 0 l.i) ++ drop l.i (replicate 125 0)
