@@ -7,18 +7,15 @@ use evaluation::print_evaluation;
 use std::io::{BufWriter, Read, Write};
 
 fn main(rt: HostRuntime) -> anyhow::Result<()> {
-    run(&rt)
-}
-
-// A longer input than any legal file is refused by its length: one byte more tells.
-fn run(rt: &HostRuntime) -> anyhow::Result<()> {
-    let mut file = Vec::new(rt.alloc());
+    let alloc = rt.alloc();
+    // A longer input than any legal file is refused by its length: one byte more tells.
+    let mut file = Vec::new(alloc);
     rt.stdin()
         .take(MOST_BYTES as u64 + 1)
         .read_to_end(&mut file)?;
-    let mut words = vec![in rt.alloc(); 0; MOST_ITEMS as usize]?;
-    let mut out = BufWriter::new(rt.alloc(), rt.stdout())?;
-    print_evaluation(&mut out, file.as_slice(), words.as_mut_slice())?;
+    let mut words = vec![in alloc; 0; MOST_ITEMS as usize]?;
+    let mut out = BufWriter::new(alloc, rt.stdout())?;
+    print_evaluation(&mut out, &file, &mut words)?;
     out.flush()?;
     Ok(())
 }

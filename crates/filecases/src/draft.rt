@@ -1,5 +1,71 @@
 // A drive file in the making: bytes that can be set anywhere, and blocks whose check can be written anew.
+ghost use Rattle.std.specs.Prelude.{◌<◌};
+
 use std::alloc::{AllocError, Global};
+
+// The bytes of a block.
+const BLOCK: usize = 512;
+
+// A number's size in bytes.
+#[derive(Clone, Copy)]
+pub(crate) enum Size {
+    Byte = 1,
+    Half = 2,
+    Word = 4,
+}
+
+// What a block holds.
+#[derive(Clone, Copy)]
+enum Kind {
+    Header = 1,
+    Samples = 2,
+    Turns = 3,
+}
+
+// Items of one kind, so many of them a block.
+#[derive(Clone, Copy)]
+struct Items {
+    kind: Kind,
+    count: usize,
+    per_block: usize,
+    ghost some: { 0 < per_block },
+}
+
+impl Items {
+    fn blocks(self) -> usize {
+        self.count.div_ceil(self.per_block)
+    }
+}
+
+// Puts a number's low bytes at a place, little-endian, as far as there is room.
+fn put(bytes: &mut [u8], at: usize, size: Size, value: usize) {
+    if let Some(places) = bytes.get_mut(at..) {
+        let number = value.to_le_bytes();
+        for (place, byte) in places.iter_mut().zip(&number[..size as usize]) {
+            *place = *byte;
+        }
+    }
+}
+
+// The number in two bytes, little-endian. A byte that is missing counts as 0.
+fn half(bytes: &[u8]) -> u16 {
+    match bytes {
+        [low, high] => u16::from_le_bytes([*low, *high]),
+        [low] => u16::from(*low),
+        _ => 0,
+    }
+}
+
+// The check of the block that these bytes begin with: the sum of its first 255 numbers, each times its place from 1,
+// modulo 65,521.
+fn check(bytes: &[u8]) -> usize {
+    let sum = bytes
+        .chunks(2)
+        .zip(1u8..=255)
+        .map(|(pair, place)| u64::from(half(pair)) * u64::from(place))
+        .fold(0, u64::wrapping_add);
+    (sum % 65_521) as usize
+}
 
 #[derive(Drop)]
 pub(crate) struct Draft {
@@ -7,93 +73,81 @@ pub(crate) struct Draft {
 }
 
 impl Draft {
-    pub(crate) fn new(heap: Global) -> Draft {
+    pub(crate) fn new(alloc: Global) -> Draft {
         Draft {
-            bytes: Vec::new(heap),
+            bytes: Vec::new(alloc),
         }
     }
 
     pub(crate) fn bytes(&self) -> &[u8] {
-        self.bytes.as_slice()
+        &self.bytes
+    }
+
+    // The bytes from a block on, none where it is past the end.
+    fn block(&mut self, number: usize) -> &mut [u8] {
+        let start = self.bytes.len().min(number.saturating_mul(BLOCK));
+        &mut self.bytes[start..]
     }
 
     // So many zero bytes.
     pub(crate) fn resize(&mut self, length: usize) -> Result<(), AllocError> {
         self.bytes.clear();
-        for _ in 0..length {
-            self.bytes.push(0)?;
-        }
-        Ok(())
+        self.bytes.resize(length, 0)
     }
 
-    // A number of so many bytes, little-endian, where the file has room.
-    pub(crate) fn put(&mut self, at: usize, size: usize, value: usize) {
-        let mut rest = value;
-        for i in 0..size {
-            if let Some(byte) = self.bytes.get_mut(at.saturating_add(i)) {
-                *byte = (rest & 0xff) as u8;
-            }
-            rest >>= 8;
-        }
-    }
-
-    // The byte at a place, or 0.
-    fn at(&self, i: usize) -> u64 {
-        match self.bytes.get(i) {
-            Some(byte) => u64::from(*byte),
-            None => 0,
-        }
+    // Puts a number at a place of the file.
+    pub(crate) fn put(&mut self, at: usize, size: Size, value: usize) {
+        put(&mut self.bytes, at, size, value);
     }
 
     // Writes a block's check.
-    pub(crate) fn seal(&mut self, block: usize) {
-        let start = block.saturating_mul(512);
-        let mut sum: u64 = 0;
-        for i in 0..255usize {
-            let at = start.saturating_add(2 * i);
-            let number = self
-                .at(at)
-                .wrapping_add(self.at(at.saturating_add(1)).wrapping_mul(256));
-            sum = sum.wrapping_add(number.wrapping_mul(i as u64 + 1));
-        }
-        self.put(start.saturating_add(510), 2, (sum % 65_521) as usize);
+    pub(crate) fn seal(&mut self, number: usize) {
+        let block = self.block(number);
+        put(block, 510, Size::Half, check(block));
     }
 
-    // Frames and seals the blocks of so many items, `per` a block, after `before` blocks; answers how many now stand.
-    fn frame(&mut self, kind: usize, items: usize, per: usize, before: usize) -> usize {
-        let mut left = items;
-        let mut number = before;
-        for _ in 0..items.div_ceil(per.max(1)) {
-            if left > 0 {
-                let start = number.saturating_mul(512);
-                self.put(start, 2, kind);
-                self.put(start.saturating_add(2), 2, number);
-                self.put(start.saturating_add(4), 2, left.min(per));
-                self.seal(number);
-                left -= left.min(per);
-                number = number.saturating_add(1);
-            }
+    // Writes a block's kind, its number and how many items it holds.
+    fn frame(&mut self, kind: Kind, number: usize, items: usize) {
+        let block = self.block(number);
+        put(block, 0, Size::Half, kind as usize);
+        put(block, 2, Size::Half, number);
+        put(block, 4, Size::Half, items);
+    }
+
+    // Frames and seals the blocks of these items, from block `first` on.
+    fn fill(&mut self, items: Items, first: usize) {
+        let remaining = (1..=items.count).rev().step_by(items.per_block);
+        for (number, left) in (first..).zip(remaining) {
+            self.frame(items.kind, number, left.min(items.per_block));
+            self.seal(number);
         }
-        number
     }
 
     // A legal file of so many samples and turns, all zero: stroke integrator, tile width 4, serial network, 2 workers,
     // start 0, stops -10 and 10.
     pub(crate) fn drive(&mut self, samples: usize, turns: usize) -> Result<(), AllocError> {
-        let blocks = samples
-            .div_ceil(125)
-            .saturating_add(turns.div_ceil(500))
-            .saturating_add(1);
-        self.resize(blocks.saturating_mul(512))?;
-        self.put(0, 2, 1);
-        self.put(8, 4, 0x0201_0201);
-        self.put(12, 4, samples);
-        self.put(16, 4, turns);
-        self.put(24, 4, 0xffff_fff6);
-        self.put(28, 4, 10);
+        let samples = Items {
+            kind: Kind::Samples,
+            count: samples,
+            per_block: 125,
+        };
+        let turns = Items {
+            kind: Kind::Turns,
+            count: turns,
+            per_block: 500,
+        };
+        let first_of_turns = samples.blocks().saturating_add(1);
+        let blocks = first_of_turns.saturating_add(turns.blocks());
+        self.resize(blocks.saturating_mul(BLOCK))?;
+        self.frame(Kind::Header, 0, 0);
+        self.put(8, Size::Word, 0x0201_0201);
+        self.put(12, Size::Word, samples.count);
+        self.put(16, Size::Word, turns.count);
+        self.put(24, Size::Word, (-10_isize).cast_unsigned());
+        self.put(28, Size::Word, 10);
         self.seal(0);
-        let next = self.frame(2, samples, 125, 1);
-        let _ = self.frame(3, turns, 500, next);
+        self.fill(samples, 1);
+        self.fill(turns, first_of_turns);
         Ok(())
     }
 }

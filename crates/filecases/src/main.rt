@@ -2,100 +2,91 @@
 // memory, or reads it and prints what the reader answered. The commands are listed in docs/testing.md.
 #![tactic(auto)]
 
+mod command;
 mod draft;
 
+use crate::command::{Command, ParseCommandError};
 use crate::draft::Draft;
 use drivefile::{MOST_ITEMS, Record};
 use evaluation::print_evaluation;
-use std::io::{BufRead, BufReader};
+use std::alloc::Global;
+use std::io::{self, BufRead, BufReader};
+
+// The file that the commands work on, and the words that it is evaluated on.
+#[derive(Drop)]
+struct Table {
+    draft: Draft,
+    words: Vec<u32>,
+}
+
+impl Table {
+    // One line of the table.
+    fn obey(&mut self, rt: &impl Print, alloc: Global, line: &str) -> anyhow::Result<()> {
+        match line.parse() {
+            Ok(Command::Length(length)) => self.draft.resize(length)?,
+            Ok(Command::Drive { samples, turns }) => self.draft.drive(samples, turns)?,
+            Ok(Command::Put { at, size, value }) => self.draft.put(at, size, value),
+            Ok(Command::Seal(block)) => self.draft.seal(block),
+            Ok(Command::Read) => self.read(rt, line)?,
+            Ok(Command::Evaluate) => {
+                print_evaluation(&mut io::writer(rt), self.draft.bytes(), &mut self.words)?
+            }
+            Ok(Command::Samples(places)) => self.samples(rt, alloc, line, places)?,
+            Ok(Command::Turn(number)) => self.turn(rt, line, number)?,
+            Err(ParseCommandError::Blank) => (),
+            Err(ParseCommandError::Unknown) => println!(rt; "unknown command: {line}")?,
+        }
+        Ok(())
+    }
+
+    // Reads the draft and prints the line with the reader's answer.
+    fn read(&self, rt: &impl Print, line: &str) -> io::Result<()> {
+        match Record::read(self.draft.bytes()) {
+            Ok(_) => println!(rt; "{line}: accepted"),
+            Err(fault) => println!(rt; "{line}: {}", fault.told()),
+        }
+    }
+
+    // Copies the samples to a list of so many places and prints how many of them were left alone.
+    fn samples(
+        &self,
+        rt: &impl Print,
+        alloc: Global,
+        line: &str,
+        places: usize,
+    ) -> anyhow::Result<()> {
+        let Ok(record) = Record::read(self.draft.bytes()) else {
+            return Ok(());
+        };
+        let mut list = vec![in alloc; u32::MAX; places]?;
+        if let Err(fault) = record.samples(&mut list) {
+            println!(rt; "{line}: {}", fault.told())?;
+        }
+        let left = list.iter().filter(|word| **word == u32::MAX).count();
+        println!(rt; "{line}: {left} left alone")?;
+        Ok(())
+    }
+
+    // Prints the worker of a turn, or that there is none.
+    fn turn(&self, rt: &impl Print, line: &str, number: usize) -> io::Result<()> {
+        let Ok(record) = Record::read(self.draft.bytes()) else {
+            return Ok(());
+        };
+        match record.turn(number) {
+            Some(worker) => println!(rt; "{line}: worker {worker}"),
+            None => println!(rt; "{line}: none"),
+        }
+    }
+}
 
 fn main(rt: HostRuntime) -> anyhow::Result<()> {
-    run(&rt)
-}
-
-fn run(rt: &HostRuntime) -> anyhow::Result<()> {
-    let mut draft = Draft::new(rt.alloc());
-    let mut words = vec![in rt.alloc(); 0; MOST_ITEMS as usize]?;
-    for line in BufReader::new(rt.alloc(), rt.stdin())?.lines(rt.alloc()) {
-        let line = line?;
-        obey(rt, &mut draft, words.as_mut_slice(), line.as_str())?;
-    }
-    Ok(())
-}
-
-// The number in a word of a command, or 0 where the word is none.
-fn number(word: Option<&str>) -> usize {
-    let Some(text) = word else {
-        return 0;
+    let alloc = rt.alloc();
+    let mut table = Table {
+        draft: Draft::new(alloc),
+        words: vec![in alloc; 0; MOST_ITEMS as usize]?,
     };
-    match text.parse::<usize>() {
-        Ok(n) => n,
-        Err(_) => 0,
-    }
-}
-
-// One command.
-fn obey(rt: &HostRuntime, draft: &mut Draft, words: &mut [u32], line: &str) -> anyhow::Result<()> {
-    let mut parts = line.split_whitespace();
-    let Some(command) = parts.next() else {
-        return Ok(());
-    };
-    match command {
-        "length" => draft.resize(number(parts.next()))?,
-        "drive" => {
-            let samples = number(parts.next());
-            let turns = number(parts.next());
-            draft.drive(samples, turns)?;
-        }
-        "byte" => draft.put(number(parts.next()), 1, number(parts.next())),
-        "half" => draft.put(number(parts.next()), 2, number(parts.next())),
-        "word" => draft.put(number(parts.next()), 4, number(parts.next())),
-        "seal" => draft.seal(number(parts.next())),
-        "read" => read(rt, draft, line)?,
-        "evaluate" => print_evaluation(&mut rt.stdout(), draft.bytes(), words)?,
-        "samples" => samples(rt, draft, line, number(parts.next()))?,
-        "turn" => turn(rt, draft, line, number(parts.next()))?,
-        _ => println!(rt; "unknown command: {line}")?,
-    }
-    Ok(())
-}
-
-// Reads the draft and prints the line with the reader's answer.
-fn read(rt: &HostRuntime, draft: &Draft, line: &str) -> anyhow::Result<()> {
-    match Record::read(draft.bytes()) {
-        Ok(_) => println!(rt; "{line}: accepted")?,
-        Err(fault) => println!(rt; "{line}: {}", fault.told())?,
-    }
-    Ok(())
-}
-
-// Copies the samples to a list of so many places and prints how many of them were left alone.
-fn samples(rt: &HostRuntime, draft: &Draft, line: &str, places: usize) -> anyhow::Result<()> {
-    let Ok(record) = Record::read(draft.bytes()) else {
-        return Ok(());
-    };
-    let mut list = vec![in rt.alloc(); u32::MAX; places]?;
-    if let Err(fault) = record.samples(list.as_mut_slice()) {
-        println!(rt; "{line}: {}", fault.told())?;
-    }
-    let mut left: usize = 0;
-    for word in list.iter() {
-        if *word == u32::MAX {
-            left = left.saturating_add(1);
-        }
-    }
-    println!(rt; "{line}: {left} left alone")?;
-    Ok(())
-}
-
-// Prints the worker of a turn, or that there is none.
-fn turn(rt: &HostRuntime, draft: &Draft, line: &str, at: usize) -> anyhow::Result<()> {
-    let Ok(record) = Record::read(draft.bytes()) else {
-        return Ok(());
-    };
-    match record.turn(at) {
-        Some(worker) => println!(rt; "{line}: worker {worker}")?,
-        None => println!(rt; "{line}: none")?,
+    for line in BufReader::new(alloc, rt.stdin())?.lines(alloc) {
+        table.obey(&rt, alloc, &line?)?;
     }
     Ok(())
 }
