@@ -63,7 +63,7 @@ impl RecordFault {
             RecordFault::Choice(choice) => (5, 0, choice as usize),
             RecordFault::Counter(counter) => (6, 0, counter as usize),
             RecordFault::Value(value) => (7, 0, value as usize),
-            RecordFault::Blocks => (8, 0, 12),
+            RecordFault::Blocks => (8, 0, Counter::Samples as usize),
             RecordFault::Worker { block, byte } => (9, block, byte),
         };
         Refusal {

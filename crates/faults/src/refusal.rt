@@ -25,11 +25,11 @@ impl fmt::Display for Layer {
     ghost output = { λ l. Some (layer_word l) };
 
     fn fmt<W: fmt::Write>(&self, f: &mut fmt::Formatter<W>) -> fmt::Result {
-        match self {
-            Layer::Block => f.write_str("block"),
-            Layer::Record => f.write_str("record"),
-            Layer::Run => f.write_str("run"),
-        }
+        f.write_str(match self {
+            Layer::Block => "block",
+            Layer::Record => "record",
+            Layer::Run => "run",
+        })
     }
 }
 

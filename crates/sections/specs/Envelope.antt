@@ -32,11 +32,8 @@ abbrev pub rest : EnvelopeMap
 rest = envelope_map (pos 0) (neg_ℤ (pos (2 ^ 31)))
 
 -- a map keeps -2 ^ 32 ≤ p ≤ 0 and q in the signed 32-bit range; kept numbers that do not are read as rest
-abbrev pub falling : EnvelopeMap → Bool
-falling f = within (neg_ℤ (pos (2 ^ 32))) (pos 0) f.fall && signed_32 f.floor
-
 abbrev pub read_map : EnvelopeMap → EnvelopeMap
-read_map f = cond (falling f) f rest
+read_map f = cond (within (neg_ℤ (pos (2 ^ 32))) (pos 0) f.fall && signed_32 f.floor) f rest
 
 -- the word's map is (-d, x)
 abbrev pub word : Decay → ℕ → EnvelopeMap

@@ -10,3 +10,8 @@ Made None (Ok t) P = P t
 Made None (Err f) P = ⊥
 Made (Some v) (Ok t) P = ⊥
 Made (Some v) (Err f) P = f ≡ fault.Value v
+
+-- of what was made, P holds
+pub made_is : {T : Type 0} (o : Option Value) (t : T) (P : T → Type 0) → Made o (Ok t) P → P t
+made_is None t P h = h
+made_is (Some v) t P h = absurd h

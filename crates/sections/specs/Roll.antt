@@ -27,11 +27,8 @@ abbrev pub rest : RollMap
 rest = roll_map 1 0
 
 -- both numbers of a map are words; kept numbers that are not are read as rest
-abbrev pub of_words : RollMap → Bool
-of_words f = is_word f.factor && is_word f.add
-
 abbrev pub read_map : RollMap → RollMap
-read_map f = cond (of_words f) f rest
+read_map f = cond (is_word f.factor && is_word f.add) f rest
 
 -- the word's map is (c, x)
 abbrev pub word : Coefficient → ℕ → RollMap

@@ -45,9 +45,9 @@ impl Section for Envelope {
 
     ghost signed = { refl };
 
-    ghost laws = { Lawful.laws _ _ _ _ sound };
+    ghost laws = { Lawful.laws _ _ _ sound };
 
-    ghost reading = { Lawful.reading _ _ _ _ sound };
+    ghost reading = { Lawful.reading _ _ _ sound };
 
     fn next(params: Decay, state: i32, word: u32) -> i32 {
         (word.cast_signed() as i64).max(state as i64 - params.value as i64) as i32

@@ -45,9 +45,9 @@ impl Section for Roll {
 
     ghost signed = { refl };
 
-    ghost laws = { Lawful.laws _ _ _ _ sound };
+    ghost laws = { Lawful.laws _ _ _ sound };
 
-    ghost reading = { Lawful.reading _ _ _ _ sound };
+    ghost reading = { Lawful.reading _ _ _ sound };
 
     fn next(params: Coefficient, state: u32, word: u32) -> u32 {
         params.value.wrapping_mul(state).wrapping_add(word)

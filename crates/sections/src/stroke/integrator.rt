@@ -23,9 +23,9 @@ impl Section for Stroke {
 
     ghost signed = { refl };
 
-    ghost laws = { Lawful.laws _ _ _ _ sound };
+    ghost laws = { Lawful.laws _ _ _ sound };
 
-    ghost reading = { Lawful.reading _ _ _ _ sound };
+    ghost reading = { Lawful.reading _ _ _ sound };
 
     fn next(params: Stops, state: i32, word: u32) -> i32 {
         params.hold(read_state(state) as i64 + word.cast_signed() as i64)

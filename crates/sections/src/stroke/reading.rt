@@ -1,21 +1,10 @@
 // Maps in range: made from kept numbers after the range test, else rest. And states, in the same way.
 ghost use Rattle.std.specs.Prelude.{◌≡◌};
-ghost use Rattle.sections.specs.Stroke.{joined, moved, numbers, ordered, read_map, read_state, rest};
+ghost use Rattle.sections.specs.Stroke.{joined, moved, numbers, read_map, read_state, rest};
 
 use crate::stroke::{Checked, REACH, Stops, StrokeMap};
 
 const TWICE_REACH: i64 = 2_147_483_648;
-
-impl StrokeMap {
-    // Whether `add` is from -2R to 2R, and -R <= low <= high <= R.
-    fn is_in_range(self) -> bool
-        ensures { result ≡ ordered self }
-    {
-        (-TWICE_REACH..=TWICE_REACH).contains(&self.add)
-            && (-REACH..=self.high).contains(&self.low)
-            && self.high <= REACH
-    }
-}
 
 impl Checked {
     // The map that leaves every position as it is.
@@ -35,16 +24,15 @@ impl Checked {
     pub(crate) fn read(map: StrokeMap) -> Checked
         ensures { numbers result ≡ read_map map }
     {
-        if map.is_in_range() {
-            Checked {
-                add: map.add,
-                stops: Stops {
-                    lower: map.low,
-                    upper: map.high,
-                },
-            }
-        } else {
-            Checked::rest()
+        let Ok(stops) = Stops::new(map.low, map.high) else {
+            return Checked::rest();
+        };
+        if !(-TWICE_REACH..=TWICE_REACH).contains(&map.add) {
+            return Checked::rest();
+        }
+        Checked {
+            add: map.add,
+            stops,
         }
     }
 
