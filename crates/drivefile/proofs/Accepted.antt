@@ -19,7 +19,7 @@ use Rattle.drivefile.specs.File.{file_of, header_payload, part, section_number, 
 use Rattle.drivefile.specs.declared.header.SectionChoice.{SectionChoice}
 use Rattle.drivefile.specs.declared.header.SectionChoice.TheVariants as section
 use Rattle.drivefile.proofs.Codings.{byte, whole, word}
-use Rattle.drivefile.proofs.Items.{items_passed}
+use Rattle.drivefile.proofs.ItemBlocks.{items_passed}
 use Rattle.drivefile.proofs.Numbered.{block_file, block_first, block_of, block_sample, block_turn, blocks, header_block, length_file, length_header_payload, sample_blocks, turn_block}
 use Rattle.drivefile.proofs.Parts.{all_part, length_part}
 use Rattle.drivefile.proofs.SectionWords.{envelope_in, network_known, section_known, stroke_in}

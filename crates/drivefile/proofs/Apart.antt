@@ -5,7 +5,7 @@ use Rattle.drivefile.specs.Header.{blocks_for}
 use Rattle.drivefile.specs.Record.{DriveRecord, RecordRange}
 use Rattle.drivefile.specs.File.{file_of, header_payload, items_block}
 use Rattle.drivefile.proofs.Codings.{byte, word, written_same}
-use Rattle.drivefile.proofs.Items.{all_same}
+use Rattle.drivefile.proofs.ItemBlocks.{all_same}
 use Rattle.drivefile.proofs.Numbered.{block_file, block_first, block_of, block_sample, block_turn, blocks, length_header_payload, length_values, sample_blocks}
 use Rattle.drivefile.proofs.Sealed.{same_payload}
 use Rattle.drivefile.proofs.SectionWords.{network_same, numbers, numbers_fit, section_same, turn_bytes}

@@ -20,7 +20,7 @@ use Rattle.drivefile.specs.declared.header.SectionKind.TheVariants as kind
 use Rattle.drivefile.proofs.Accepted.{rest_tests}
 use Rattle.drivefile.proofs.Codings.{Bytes, byte, bytes_part, run_taken, word}
 use Rattle.drivefile.proofs.Counted.{counted}
-use Rattle.drivefile.proofs.Items.{passed_items}
+use Rattle.drivefile.proofs.ItemBlocks.{passed_items}
 use Rattle.drivefile.proofs.Lengths.{legal}
 use Rattle.drivefile.proofs.Numbered.{block_first, block_of, block_sample, block_turn, blocks, header_block, numbered, sample_block, sample_blocks, turn_block}
 use Rattle.drivefile.proofs.Ordered.{OfBlock, header_of_block, number_of, ordered_ok, section_by}

@@ -7,7 +7,7 @@ pub mod Parts
 pub mod Rows
 pub mod Codings
 pub mod Sealed
-pub mod Items
+pub mod ItemBlocks
 pub mod Runs
 pub mod Ordered
 pub mod Numbered

@@ -9,7 +9,7 @@ use Rattle.drivefile.specs.File.{file_of, header_payload, items_block, sealed, v
 use Rattle.drivefile.specs.declared.header.SectionChoice.{SectionChoice}
 use Rattle.drivefile.specs.declared.header.SectionChoice.TheVariants as section
 use Rattle.drivefile.proofs.Codings.{byte, length_written, word}
-use Rattle.drivefile.proofs.Items.{length_items}
+use Rattle.drivefile.proofs.ItemBlocks.{length_items}
 use Rattle.drivefile.proofs.Parts.{joined_counting, joined_same, length_rows, part_rows}
 use Rattle.drivefile.proofs.Sealed.{length_sealed}
 use Rattle.drivefile.specs.declared.block.Kind.TheVariants as block_kind

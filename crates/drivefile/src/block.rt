@@ -6,12 +6,15 @@ ghost use Rattle.drivefile.specs.Block.{block_test, filling, first_from, frame};
 use crate::bytes::le16;
 use crate::check::check;
 use faults::{BlockFault, Field};
+use std::ops::Range;
 
 // The bytes of a block.
 pub(crate) const BLOCK: usize = 512;
 
-// Where a block's payload begins.
+// Where a block's payload begins, and where its check stands after it.
 pub(crate) const PAYLOAD: usize = 8;
+
+pub(crate) const CHECK: usize = 510;
 
 // What a block holds, by the number that it begins with.
 #[derive(Clone, Copy)]
@@ -66,7 +69,7 @@ impl Block<'_> {
         ensures { result ≡ filling self.now.number due self.now.bytes.now }
     {
         let bytes = self.bytes;
-        match first_from(bytes, 1, PAYLOAD + due.used, 510) {
+        match first_from(bytes, 1, PAYLOAD + due.used..CHECK) {
             Some(byte) => Err(BlockFault::Filling {
                 block: self.number,
                 byte,
@@ -81,7 +84,7 @@ impl Block<'_> {
         ensures { result ≡ block_test self.now.number due self.now.bytes.now }
     {
         let bytes = self.bytes;
-        if check(bytes) != le16(bytes, 510) {
+        if check(bytes) != le16(bytes, CHECK) {
             return Err(BlockFault::Check { block: self.number });
         }
         self.test_frame(due)?;
@@ -107,12 +110,13 @@ fn place_from(bytes: &[u8], limit: u8) -> Option<usize>
     }
 }
 
-// The first place from `from` up to `to` whose byte is at or above `limit`.
-pub(crate) fn first_from(bytes: &[u8], limit: u8, from: usize, to: usize) -> Option<usize>
-    requires within { to ≤ length bytes.now }
-    requires forward { from ≤ to }
-    ensures { result ≡ first_from limit bytes.now from (to - from) }
+// The first of some places whose byte is at or above `limit`.
+pub(crate) fn first_from(bytes: &[u8], limit: u8, places: Range<usize>) -> Option<usize>
+    requires within { places.end ≤ length bytes.now }
+    requires forward { places.start ≤ places.end }
+    ensures { result ≡ first_from limit bytes.now places.start (places.end - places.start) }
 {
-    let place = place_from(&bytes[from..to], limit)?;
+    let from = places.start;
+    let place = place_from(&bytes[places], limit)?;
     Some(from + place)
 }

@@ -3,7 +3,7 @@ ghost use Rattle.std.specs.Prelude.{◌≡◌, ◌+◌, ◌<◌, ◌^◌};
 ghost use Rattle.drivefile.specs.Block.{check_of, weighted_sum};
 ghost use Rattle.drivefile.specs.Columns.{with_number};
 
-use crate::block::BLOCK;
+use crate::block::{BLOCK, CHECK};
 use crate::bytes::le16;
 
 // The check takes a block as 32 rows of 8 numbers.
@@ -43,7 +43,7 @@ fn weighted_sum(block: &[u8; BLOCK]) -> u32
     for (j, column) in columns.iter().enumerate() {
         sum += (257 + j as u32) * column.sum - 8 * column.total;
     }
-    sum - 256 * le16(block, 510)
+    sum - 256 * le16(block, CHECK)
 }
 
 // The check of a block: that sum modulo 65,521.

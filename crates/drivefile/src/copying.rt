@@ -5,7 +5,7 @@ ghost use Rattle.drivefile.specs.Header.{blocks_for};
 
 use crate::block::{BLOCK, PAYLOAD};
 use crate::bytes::le32;
-use crate::header::SAMPLES_PER_BLOCK;
+use crate::items::SAMPLES_PER_BLOCK;
 use std::array;
 
 // The words of a block's payload.

@@ -5,6 +5,7 @@ ghost use Rattle.drivefile.specs.Names.{network_word, section_word};
 
 use crate::block::{BLOCK, Block, Due, Kind};
 use crate::bytes::le32;
+use crate::items::{Items, SAMPLES_PER_BLOCK, TURNS_PER_BLOCK};
 use faults::{Choice, Counter, RecordFault, Value};
 use sections::envelope::Decay;
 use sections::stroke::{REACH, Stops};
@@ -12,11 +13,6 @@ use std::fmt;
 
 // The most samples, and the most turns, of a record.
 pub const MOST_ITEMS: u32 = 65_536;
-
-// Samples and turns that a block holds.
-pub(crate) const SAMPLES_PER_BLOCK: usize = 125;
-
-pub(crate) const TURNS_PER_BLOCK: usize = 500;
 
 // Which section, with its start state and its parameters. The reader has tested that they are in range.
 #[derive(Clone, Copy)]
@@ -105,19 +101,39 @@ impl fmt::Display for NetworkChoice {
 }
 
 impl Header {
+    pub(crate) fn sample_items(self) -> Items
+        ensures count { result.count ≡ self.samples }
+        ensures per_block { result.per_block ≡ 125 }
+    {
+        Items {
+            count: self.samples,
+            per_block: SAMPLES_PER_BLOCK,
+        }
+    }
+
+    pub(crate) fn turn_items(self) -> Items
+        ensures count { result.count ≡ self.turns }
+        ensures per_block { result.per_block ≡ 500 }
+    {
+        Items {
+            count: self.turns,
+            per_block: TURNS_PER_BLOCK,
+        }
+    }
+
     // The blocks that the samples take.
     pub(crate) fn sample_blocks(self) -> usize
         ensures value { result ≡ blocks_for self.samples 125 }
         ensures bound { result ≤ self.samples + 1 }
     {
-        blocks_for(self.samples, SAMPLES_PER_BLOCK)
+        self.sample_items().blocks()
     }
 
     // The blocks of a record: the header, the samples', the turns'.
-    fn blocks(self) -> usize
+    fn block_count(self) -> usize
         ensures { result ≡ needed self.samples self.turns }
     {
-        1 + self.sample_blocks() + blocks_for(self.turns, TURNS_PER_BLOCK)
+        1 + self.sample_blocks() + self.turn_items().blocks()
     }
 }
 
@@ -132,75 +148,62 @@ fn test_stroke(start: i32, lower: i32, upper: i32) -> Result<(), RecordFault>
     Ok(())
 }
 
-// The section, where its start state and its parameters are in range.
-fn in_range(section: SectionChoice) -> Result<SectionChoice, RecordFault>
-    ensures { result ≡ in_range section }
-{
-    match section {
-        SectionChoice::Stroke {
-            start,
-            lower,
-            upper,
-        } => test_stroke(start, lower, upper)?,
-        SectionChoice::Roll { .. } => {}
-        SectionChoice::Envelope { decay, .. } => {
-            let _ = Decay::new(decay)?;
+impl SectionChoice {
+    // The section, where its start state and its parameters are in range.
+    fn in_range(self) -> Result<SectionChoice, RecordFault>
+        ensures { result ≡ in_range self }
+    {
+        match self {
+            SectionChoice::Stroke {
+                start,
+                lower,
+                upper,
+            } => test_stroke(start, lower, upper)?,
+            SectionChoice::Roll { .. } => {}
+            SectionChoice::Envelope { decay, .. } => {
+                let _ = Decay::new(decay)?;
+            }
         }
+        Ok(self)
     }
-    Ok(section)
+
+    // The section in range, where it has no second parameter: its place in the header is zero.
+    fn without_second(self, second: u32) -> Result<SectionChoice, RecordFault>
+        ensures { result ≡ without_second self second }
+    {
+        let section = self.in_range()?;
+        if second != 0 {
+            return Err(RecordFault::Value(Value::Second));
+        }
+        Ok(section)
+    }
 }
 
-// A section in range that has no second parameter: its place in the header is zero.
-fn without_second(section: SectionChoice, second: u32) -> Result<SectionChoice, RecordFault>
-    ensures { result ≡ without_second section second }
-{
-    let section = in_range(section)?;
-    if second != 0 {
-        return Err(RecordFault::Value(Value::Second));
-    }
-    Ok(section)
-}
-
-// The section of a kind, from the words at bytes 20, 24 and 28.
-fn section_choice(
-    kind: SectionKind,
-    start: u32,
-    first: u32,
-    second: u32,
-) -> Result<SectionChoice, RecordFault>
-    ensures { result ≡ section_of kind start first second }
-{
-    let signed = start.cast_signed();
-    match kind {
-        SectionKind::Stroke => in_range(SectionChoice::Stroke {
-            start: signed,
-            lower: first.cast_signed(),
-            upper: second.cast_signed(),
-        }),
-        SectionKind::Roll => without_second(
-            SectionChoice::Roll {
+impl SectionKind {
+    // The section of this kind, from the words at bytes 20, 24 and 28.
+    fn section(self, start: u32, first: u32, second: u32) -> Result<SectionChoice, RecordFault>
+        ensures { result ≡ section_of self start first second }
+    {
+        let signed = start.cast_signed();
+        match self {
+            SectionKind::Stroke => SectionChoice::Stroke {
+                start: signed,
+                lower: first.cast_signed(),
+                upper: second.cast_signed(),
+            }
+            .in_range(),
+            SectionKind::Roll => SectionChoice::Roll {
                 start,
                 coefficient: first,
-            },
-            second,
-        ),
-        SectionKind::Envelope => without_second(
-            SectionChoice::Envelope {
+            }
+            .without_second(second),
+            SectionKind::Envelope => SectionChoice::Envelope {
                 start: signed,
                 decay: first,
-            },
-            second,
-        ),
+            }
+            .without_second(second),
+        }
     }
-}
-
-// How many blocks the items take, `per` a block.
-pub(crate) fn blocks_for(items: u32, per: usize) -> usize
-    requires { 0 < per }
-    ensures value { result ≡ blocks_for items per }
-    ensures bound { result ≤ items + 1 }
-{
-    (items as usize).div_ceil(per)
 }
 
 // The header's values, in the order of their tests.
@@ -225,7 +228,7 @@ fn header_values(bytes: &[u8; BLOCK], blocks: usize) -> Result<Header, RecordFau
     if turns > MOST_ITEMS {
         return Err(RecordFault::Counter(Counter::Turns));
     }
-    let section = section_choice(kind, le32(bytes, 20), le32(bytes, 24), le32(bytes, 28))?;
+    let section = kind.section(le32(bytes, 20), le32(bytes, 24), le32(bytes, 28))?;
     let header = Header {
         section,
         exponent,
@@ -234,7 +237,7 @@ fn header_values(bytes: &[u8; BLOCK], blocks: usize) -> Result<Header, RecordFau
         samples,
         turns,
     };
-    if blocks != header.blocks() {
+    if blocks != header.block_count() {
         return Err(RecordFault::Blocks);
     }
     Ok(header)

@@ -7,6 +7,7 @@ mod bytes;
 mod check;
 mod copying;
 mod header;
+mod items;
 mod reader;
 mod record;
 

@@ -5,14 +5,14 @@ ghost use Rattle.drivefile.specs.Reading.{later_block, legal_length, reading, re
 ghost use Rattle.faults.specs.declared.block.BlockFault.TheVariants.{Length};
 
 use crate::block::{BLOCK, Block, Due, Kind, PAYLOAD, first_from};
-use crate::header::{Header, SAMPLES_PER_BLOCK, TURNS_PER_BLOCK, read_header};
+use crate::header::{Header, read_header};
 use faults::{BlockFault, RecordFault};
 
 // The blocks of the longest record: the header, 525 of samples and 132 of turns.
 const MOST_BLOCKS: usize = 658;
 
 // The bytes of the longest file.
-pub const MOST_BYTES: usize = 336_896;
+pub const MOST_BYTES: usize = BLOCK * MOST_BLOCKS;
 
 // The blocks of a file: a whole number of them, from 1 to the most that a record takes.
 fn blocks_of(file: &[u8]) -> Result<&[[u8; BLOCK]], BlockFault>
@@ -24,23 +24,13 @@ fn blocks_of(file: &[u8]) -> Result<&[[u8; BLOCK]], BlockFault>
     }
 }
 
-// How many of so many items lie in the block that comes after `before` blocks of them, `per` a block.
-fn items_in(items: u32, per: usize, before: usize) -> usize
-    requires { per * before < 2 ^ 63 }
-    ensures { result ≡ min per (items - per * before) }
-{
-    per.min((items as usize).saturating_sub(per * before))
-}
-
 // A block of samples.
 fn test_samples(block: &Block, header: Header) -> Result<(), RecordFault>
     ensures { result ≡ sample_block header block.now.number block.now.bytes.now }
 {
-    let count = items_in(
-        header.samples,
-        SAMPLES_PER_BLOCK,
-        block.number.saturating_sub(1),
-    );
+    let count = header
+        .sample_items()
+        .in_block(block.number.saturating_sub(1));
     block.test(Due {
         kind: Kind::Samples,
         count,
@@ -54,14 +44,14 @@ fn test_turns(block: &Block, header: Header) -> Result<(), RecordFault>
     ensures { result ≡ turn_block header block.now.number block.now.bytes.now }
 {
     let before = block.number.saturating_sub(1 + header.sample_blocks());
-    let count = items_in(header.turns, TURNS_PER_BLOCK, before);
+    let count = header.turn_items().in_block(before);
     block.test(Due {
         kind: Kind::Turns,
         count,
         used: count,
     })?;
     let bytes = block.bytes;
-    match first_from(bytes, header.workers, PAYLOAD, PAYLOAD + count) {
+    match first_from(bytes, header.workers, PAYLOAD..PAYLOAD + count) {
         Some(byte) => Err(RecordFault::Worker {
             block: block.number,
             byte,

@@ -9,7 +9,8 @@ ghost use Rattle.drivefile.specs.Record.{copied_record, copying_record, recorded
 
 use crate::block::{BLOCK, PAYLOAD};
 use crate::copying::copy_samples;
-use crate::header::{Header, TURNS_PER_BLOCK};
+use crate::header::Header;
+use crate::items::TURNS_PER_BLOCK;
 use crate::reader::test_file;
 use faults::{RecordFault, RunFault};
 

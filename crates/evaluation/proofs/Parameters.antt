@@ -1,16 +1,11 @@
 -- Parameters made from values that are not at fault.
-use Rattle.std.proofs.Common.{◌≡◌, ℕ, Bool, true, false, cond, ℤ, pos, neg_ℤ, Some, None, Ok, Err, Option, arith}
+use Rattle.std.proofs.Common.{◌≡◌, ℕ, Bool, true, false, cond, ℤ, pos, neg_ℤ, Some, None, Err, Option, arith}
 use Rattle.faults.specs.declared.record.Value.{Value}
 use Rattle.faults.specs.declared.record.RecordFault.{RecordFault}
 use Rattle.sections.specs.Made.{Made}
 use Rattle.sections.specs.Range.{within}
 use Rattle.sections.specs.Stroke.{reach, stops_fault}
 use Rattle.drivefile.specs.Header.{stroke_fault}
-
--- what was made is what was asked for
-pub made_is : {T : Type 0} (o : Option Value) (t : T) (P : T → Type 0) → Made o (Ok t) P → P t
-made_is None t P h = h
-made_is (Some v) t P h = absurd h
 
 -- where nothing is at fault nothing is refused
 pub not_refused : {T : Type 0} (o : Option Value) (f : RecordFault) (P : T → Type 0) → o ≡ None → Made o (Err f) P → ⊥

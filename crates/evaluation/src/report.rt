@@ -61,7 +61,7 @@ impl fmt::Display for Line {
 fn tile_width(exponent: u8) -> u32
     ensures { result ≡ width_of exponent }
 {
-    1_u32.checked_shl(u32::from(exponent)).unwrap_or(0)
+    1_u32.checked_shl(exponent as u32).unwrap_or(0)
 }
 
 // A word as the chosen section reads it.

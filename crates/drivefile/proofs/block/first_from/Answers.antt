@@ -22,7 +22,7 @@ first_by_place limit bs from n h =
     ap (option_map (λ k. from + k)) (position_from-zero (nat_le limit) (take n (drop from bs))) ∙ rw e at (first_at limit bs from 0 n (omega arith))
 
 pub returns-in_err-place : goal.returns-in_err-place
-returns-in_err-place c = let e = first_by_place c.args.limit c.args.bytes.now c.args.from (c.args.to - c.args.from) (omega arith) in search rules
+returns-in_err-place c = let e = first_by_place c.args.limit c.args.bytes.now c.args.places.start (c.args.places.end - c.args.places.start) (omega arith) in search rules
 
 pub returns : goal.returns
-returns c = let e = first_by_place c.args.limit c.args.bytes.now c.args.from (c.args.to - c.args.from) (omega arith) in search rules
+returns c = let e = first_by_place c.args.limit c.args.bytes.now c.args.places.start (c.args.places.end - c.args.places.start) (omega arith) in search rules

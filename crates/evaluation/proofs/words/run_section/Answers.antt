@@ -3,7 +3,7 @@ use Rattle.std.proofs.lemmas.Int.{to_z-of_z}
 use Rattle.sections.specs.Recursion.{words}
 use Rattle.sections.specs.Stroke.{shown, step, stops_fault}
 use Rattle.sections.specs.declared.stroke.Stops.{Stops}
-use Rattle.evaluation.proofs.Parameters.{made_is}
+use Rattle.sections.specs.Made.{made_is}
 use Rattle.evaluation.proofs.words.run_section.Goals as goal
 
 pub returns-in_ok-new-in-Stroke-clause-after : goal.returns-in_ok-new-in-Stroke-clause-after
