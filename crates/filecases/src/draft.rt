@@ -1,4 +1,5 @@
-// A drive file in the making: bytes that can be set anywhere, and blocks whose check can be written anew.
+// A drive file in the making: bytes that can be set anywhere, and blocks whose check can be written anew. It shares
+// nothing with the reader that it tries, so its kinds and sizes are its own.
 ghost use Rattle.std.specs.Prelude.{◌<◌};
 
 use std::alloc::{AllocError, Global};
@@ -140,7 +141,10 @@ impl Draft {
         let blocks = first_of_turns.saturating_add(turns.blocks());
         self.resize(blocks.saturating_mul(BLOCK))?;
         self.frame(Kind::Header, 0, 0);
-        self.put(8, Size::Word, 0x0201_0201);
+        self.put(8, Size::Byte, 1);
+        self.put(9, Size::Byte, 2);
+        self.put(10, Size::Byte, 1);
+        self.put(11, Size::Byte, 2);
         self.put(12, Size::Word, samples.count);
         self.put(16, Size::Word, turns.count);
         self.put(24, Size::Word, (-10_isize).cast_unsigned());
