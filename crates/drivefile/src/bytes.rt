@@ -1,4 +1,5 @@
-// Little-endian numbers in bytes.
+// Little-endian numbers in bytes. Two calls, since `from_le_bytes` is a method of each number type with no trait over them: a
+// generic one would need a padded array or a loop over bytes, and a length at each call.
 ghost use Rattle.std.specs.Prelude.{◌≡◌, ◌+◌, ◌<◌, ◌≤◌, length};
 ghost use Rattle.drivefile.specs.Bytes.{le16 as le16_at, le32 as le32_at};
 

@@ -6,7 +6,7 @@ ghost use Rattle.drivefile.specs.Columns.{with_number};
 use crate::block::{BLOCK, CHECK};
 use crate::bytes::le16;
 
-// The check takes a block as 32 rows of 8 numbers.
+// The check takes a block as 32 rows of 8 numbers: a chain over the 255 numbers takes twice as long.
 const COLUMNS: usize = 8;
 
 const ROW_BYTES: usize = 2 * COLUMNS;

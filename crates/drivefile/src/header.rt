@@ -206,7 +206,7 @@ impl SectionKind {
     }
 }
 
-// The header's values, in the order of their tests.
+// The header's values, in the order of their tests. `blocks` counts those of the whole file.
 fn header_values(bytes: &[u8; BLOCK], blocks: usize) -> Result<Header, RecordFault>
     ensures { result ≡ header_values blocks bytes.now }
 {

@@ -24,7 +24,7 @@ fn blocks_of(file: &[u8]) -> Result<&[[u8; BLOCK]], BlockFault>
     }
 }
 
-// A block of samples.
+// A block of samples. Here and below a block and the header stay apart: one of them would only move before the dot.
 fn test_samples(block: &Block, header: Header) -> Result<(), RecordFault>
     ensures { result ≡ sample_block header block.now.number block.now.bytes.now }
 {
@@ -71,7 +71,7 @@ fn test_later(block: &Block, header: Header) -> Result<(), RecordFault>
     }
 }
 
-// Every block after the header, in order.
+// Every block after the header, in order, from number 1 on.
 fn test_rest(blocks: &[[u8; BLOCK]], header: Header) -> Result<(), RecordFault>
     requires some { 1 ≤ length blocks.now }
     requires most { length blocks.now ≤ 658 }

@@ -64,7 +64,7 @@ fn tile_width(exponent: u8) -> u32
     1_u32.checked_shl(exponent as u32).unwrap_or(0)
 }
 
-// A word as the chosen section reads it.
+// A word as the chosen section reads it. A `match`, since the kinds are closed and each has types of its own.
 fn section_number(section: SectionChoice, word: u32) -> i64
     ensures { result ≡ number_of (read_signed section) word }
 {

@@ -12,7 +12,8 @@ use sections::recursion::run;
 use sections::roll::{Coefficient, Roll};
 use sections::stroke::{Stops, Stroke};
 
-// Puts the words of the chosen section in the place of its samples. Its values are in range, so no parameter is refused.
+// Puts the words of the chosen section in the place of its samples. Its values are in range, so no parameter is refused. A
+// `match`, since the kinds are closed and each has types of its own.
 fn run_section(section: SectionChoice, samples: &mut [u32]) -> Result<(), RecordFault>
     requires { values_fault section ≡ None }
     ensures value { result ≡ Ok tt }

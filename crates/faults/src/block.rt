@@ -27,6 +27,7 @@ pub enum BlockFault {
 }
 
 impl BlockFault {
+    // The fault's row of the table of refusals: it looks a fault up and converts nothing, so it is no `From`.
     pub fn told(&self) -> Refusal
         ensures { result ≡ block_told self.now }
     {

@@ -46,6 +46,7 @@ pub enum RecordFault {
     Worker { block: usize, byte: usize },
 }
 
+// By hand, since a derived one has no contract and the reader's names the fault that `?` makes.
 impl From<BlockFault> for RecordFault {
     ghost from_gives = { λ e r. r ≡ Block e };
 
@@ -55,6 +56,7 @@ impl From<BlockFault> for RecordFault {
 }
 
 impl RecordFault {
+    // The fault's row of the table of refusals: it looks a fault up and converts nothing, so it is no `From`.
     pub fn told(&self) -> Refusal
         ensures { result ≡ record_told self.now }
     {

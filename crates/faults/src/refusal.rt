@@ -15,6 +15,7 @@ pub enum Layer {
 // A refusal by number and place. Faults that concern no place of a file name block 0, byte 0.
 #[derive(Clone, Copy, PartialEq, Eq, Debug)]
 pub struct Refusal {
+    // a number, since it is what is printed; callers match on the fault, which is an enum
     pub code: u8,
     pub layer: Layer,
     pub block: usize,

@@ -18,6 +18,7 @@ pub enum RunFault {
     Board,
 }
 
+// By hand, since a derived one has no contract and callers' contracts name the fault that `?` makes.
 impl From<RecordFault> for RunFault {
     ghost from_gives = { λ e r. r ≡ Record e };
 
@@ -27,6 +28,7 @@ impl From<RecordFault> for RunFault {
 }
 
 impl RunFault {
+    // The fault's row of the table of refusals: it looks a fault up and converts nothing, so it is no `From`.
     pub fn told(&self) -> Refusal
         ensures { result ≡ run_told self.now }
     {

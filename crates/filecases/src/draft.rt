@@ -58,7 +58,7 @@ fn half(bytes: &[u8]) -> u16 {
 }
 
 // The check of the block that these bytes begin with: the sum of its first 255 numbers, each times its place from 1,
-// modulo 65,521.
+// modulo 65,521. A `fold`, since `sum` asks for a bound of the terms, and that goal stayed open.
 fn check(bytes: &[u8]) -> usize {
     let sum = bytes
         .chunks(2)
@@ -115,7 +115,7 @@ impl Draft {
         put(block, 4, Size::Half, items);
     }
 
-    // Frames and seals the blocks of these items, from block `first` on.
+    // Frames and seals the blocks of these items, from block `first` on: `left` is what is still to come at each.
     fn fill(&mut self, items: Items, first: usize) {
         let remaining = (1..=items.count).rev().step_by(items.per_block);
         for (number, left) in (first..).zip(remaining) {

@@ -20,7 +20,7 @@ impl Checked {
         }
     }
 
-    // The map that kept numbers stand for: themselves in range, else rest.
+    // The map that kept numbers stand for: themselves in range, else rest. So it is a reading, and no `From`.
     pub(crate) fn read(map: EnvelopeMap) -> Checked
         ensures { result.map ≡ read_map map }
     {
