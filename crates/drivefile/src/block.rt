@@ -92,7 +92,8 @@ impl Block<'_> {
     }
 }
 
-// Whether a byte is at or above `limit`. It looks at them all, many at a time.
+// Whether a byte is at or above `limit`. It looks at them all, many at a time: with `position` alone, which looks at one
+// after another, reading a file takes nearly twice as long.
 fn any_from(bytes: &[u8], limit: u8) -> bool
     ensures { result ≡ fold (λ any byte. any || nat_le limit byte) false bytes.now }
 {

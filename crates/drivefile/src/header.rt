@@ -1,5 +1,5 @@
 // The header: block 0 of the file, and its values as types.
-ghost use Rattle.std.specs.Prelude.{◌≡◌, ◌+◌, ◌<◌, ◌≤◌, Some, Ok};
+ghost use Rattle.std.specs.Prelude.{◌≡◌, ◌+◌, ◌<◌, ◌≤◌, [], length, slice_index_or, Some, Ok};
 ghost use Rattle.drivefile.specs.Header.{blocks_for, header_of, header_values, in_range, kind_of, needed, network_of, none_at_fault, section_of, stroke_fault, without_second};
 ghost use Rattle.drivefile.specs.Names.{network_word, section_word};
 
@@ -243,15 +243,17 @@ fn header_values(bytes: &[u8; BLOCK], blocks: usize) -> Result<Header, RecordFau
     Ok(header)
 }
 
-// The header of a file of so many blocks, from its first block.
-pub(crate) fn read_header(bytes: &[u8; BLOCK], blocks: usize) -> Result<Header, RecordFault>
-    ensures { result ≡ header_of blocks bytes.now }
+// The header of a file, from its blocks.
+pub(crate) fn read_header(blocks: &[[u8; BLOCK]]) -> Result<Header, RecordFault>
+    requires { 1 ≤ length blocks.now }
+    ensures { result ≡ header_of (length blocks.now) (slice_index_or blocks.now 0 []) }
 {
+    let bytes = &blocks[0];
     let block = Block { number: 0, bytes };
     block.test(Due {
         kind: Kind::Header,
         count: 0,
         used: 24,
     })?;
-    header_values(bytes, blocks)
+    header_values(bytes, blocks.len())
 }

@@ -71,7 +71,8 @@ fn test_later(block: &Block, header: Header) -> Result<(), RecordFault>
     }
 }
 
-// Every block after the header, in order, from number 1 on.
+// Every block after the header, in order, from number 1 on. The rest of the list is gone over by its places: of an iterator that
+// skips the first a proof knows no item by its place.
 fn test_rest(blocks: &[[u8; BLOCK]], header: Header) -> Result<(), RecordFault>
     requires some { 1 ≤ length blocks.now }
     requires most { length blocks.now ≤ 658 }
@@ -90,7 +91,7 @@ pub(crate) fn test_file(file: &[u8]) -> Result<Header, RecordFault>
     ensures { result ≡ reading file.now }
 {
     let blocks = blocks_of(file)?;
-    let header = read_header(&blocks[0], blocks.len())?;
+    let header = read_header(blocks)?;
     test_rest(blocks, header)?;
     Ok(header)
 }

@@ -56,7 +56,7 @@ impl From<BlockFault> for RecordFault {
 }
 
 impl RecordFault {
-    // The fault's row of the table of refusals: it looks a fault up and converts nothing, so it is no `From`.
+    // The fault's row of the table of refusals. No `From`, whose call would not say that a table is looked up.
     pub fn told(&self) -> Refusal
         ensures { result ≡ record_told self.now }
     {

@@ -28,7 +28,7 @@ impl From<RecordFault> for RunFault {
 }
 
 impl RunFault {
-    // The fault's row of the table of refusals: it looks a fault up and converts nothing, so it is no `From`.
+    // The fault's row of the table of refusals. No `From`, whose call would not say that a table is looked up.
     pub fn told(&self) -> Refusal
         ensures { result ≡ run_told self.now }
     {

@@ -30,6 +30,7 @@ impl Decay {
     }
 }
 
+// `rest` and `join` read as the integrator's do: a trait over both types of map would be longer than these lines.
 impl Section for Envelope {
     type State = i32;
 

@@ -20,7 +20,7 @@ impl Checked {
         }
     }
 
-    // The map that kept numbers stand for: themselves in range, else rest. So it is a reading, and no `From`.
+    // The map that kept numbers stand for: themselves in range, else rest. No `From`, which would hide that a map is replaced.
     pub(crate) fn read(map: StrokeMap) -> Checked
         ensures { numbers result ≡ read_map map }
     {
