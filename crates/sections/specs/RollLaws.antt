@@ -1,6 +1,6 @@
 -- The laws of the roll section: sums and products may be taken modulo 2 ^ 32 on the way.
 use Rattle.std.specs.Prelude.{◌≡◌, ℕ, ◌+◌, ◌*◌, ◌%◌, ◌^◌, ◌<◌, refl}
-use Rattle.std.proofs.Common.{sym, ap, ◌∙◌, mod-eq_of_lt, mod-lt, arith}
+use Rattle.std.proofs.Common.{sym, ap, ◌∙◌, mod-eq_of_lt, mod-lt, mul-add, mul_assoc, mul_comm, arith}
 use Rattle.std.proofs.Math.Nat.{add-mod, mod-add-mod, mod-mod}
 use Rattle.std.proofs.lemmas.Bool.{lt-ltb, ltb-true}
 use Rattle.std.proofs.lemmas.Nat.{mul-mod_first, mul-mod_second}
@@ -28,16 +28,26 @@ rest_in = (omega arith, omega arith)
 maps : Kept Words read_map
 maps = kept Words _ rest (λ f e. grind arith) (λ f h. grind arith) rest_in
 
--- the factor and the summand of a map may be taken modulo n first
+-- a factor may be taken modulo n first
+mul_mod : (a b n : ℕ) → (a % n * b) % n ≡ (a * b) % n
+mul_mod a b n = mul-mod_first a b n
+
+-- so may the factor and the summand of a map
 affine_mod : (a b s n : ℕ) → (a % n * s + b % n) % n ≡ (a * s + b) % n
 affine_mod a b s n =
     add-mod (a % n * s) (b % n) n
-    ∙ (λ i. (mul-mod_first a s n i + mod-mod b n i) % n)
+    ∙ (λ i. (mul_mod a s n i + mod-mod b n i) % n)
     ∙ sym (add-mod (a * s) b n)
 
 -- and so may the state that a map is applied to
 affine_of_mod : (a b s n : ℕ) → (a * (s % n) + b) % n ≡ (a * s + b) % n
 affine_of_mod a b s n = sym (mod-add-mod (a * (s % n)) n b) ∙ ap (λ x. (x + b) % n) (mul-mod_second a s n) ∙ mod-add-mod (a * s) n b
+
+-- two maps in turn, before the modulus
+affine_twice : (m1 b1 m2 b2 s : ℕ) → m1 * m2 * s + (m2 * b1 + b2) ≡ m2 * (m1 * s + b1) + b2
+affine_twice m1 b1 m2 b2 s =
+    let factor : m1 * m2 * s ≡ m2 * (m1 * s) = ap (λ x. x * s) (mul_comm m1 m2) ∙ mul_assoc m2 m1 s in
+    omega (arith, factor, mul-add m2 (m1 * s) b1)
 
 -- so the join of two maps does what they do in turn
 joined_moved : (f g : RollMap) (s : ℕ) → moved (joined f g) s ≡ moved g (moved f s)

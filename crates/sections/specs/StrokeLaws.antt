@@ -1,14 +1,15 @@
 -- The laws of the stroke integrator.
-use Rattle.std.specs.Prelude.{◌≡◌, ℕ, ◌^◌, ◌<◌, true, ℤ, pos, ◌+ℤ◌, neg_ℤ, ◌≤ℤ◌, refl}
-use Rattle.std.proofs.Common.{sym, ap, ◌∙◌, arith, of_z}
-use Rattle.std.specs.Int.{w32}
-use Rattle.std.proofs.lemmas.Int.{clamps, ints}
+use Rattle.std.specs.Prelude.{◌≡◌, ℕ, ◌^◌, ◌<◌, true, ℤ, pos, ◌+ℤ◌, neg_ℤ, ◌≤ℤ◌, FitsSigned, refl}
+use Rattle.std.proofs.Common.{sym, ap, ◌∙◌, arith, of_z, to_z}
+use Rattle.std.specs.Int.{w32, w64}
+use Rattle.std.proofs.lemmas.Int.{clamps, ints, to_z-of_z}
 use Rattle.sections.specs.Range.{held}
-use Rattle.sections.specs.Stroke.{joined, moved, ordered, read_map, read_state, reach, rest, stroke, word}
+use Rattle.sections.specs.Stroke.{joined, moved, numbers, ordered, read_map, read_state, reach, rest, stroke, stroke_map, word}
+use Rattle.sections.specs.declared.stroke.Checked.{Checked}
 use Rattle.sections.specs.declared.stroke.Stops.{Stops}
 use Rattle.sections.specs.declared.stroke.StrokeMap.{StrokeMap}
 use Rattle.sections.specs.Lawful.{Kept, Sound, kept}
-use Rattle.sections.specs.Ranges.{Within, held_moved, held_order, held_twice, held_within, true_within, within_true}
+use Rattle.sections.specs.Ranges.{Within, carried, held_moved, held_order, held_twice, held_within, true_within, within_true}
 
 -- a position
 abbrev pub Position : ℤ → Type 0
@@ -71,6 +72,31 @@ joined_moved f g s f_in g_in s_in =
     ∙ ap (held _ _) sum
     ∙ sym (held_twice g.low g.high _ _ _)
     ∙ sym (ap (held g.low g.high) (held_moved f.low f.high (s +ℤ f.add) g.add))
+
+-- a checked map is in range
+pub checked_in : (m : Checked) → Ordered (numbers m)
+checked_in m = record {
+  add_in = record { from = m.add_from; to = m.add_to };
+  low_from = m.stops.lower_from;
+  low_to = m.stops.lower_to;
+  high_to = m.stops.upper_to;
+}
+
+-- the join as it is computed: its parts go through their bits
+pub joined_is : (m n : Checked) (a l h : ℤ)
+    → a ≡ held (neg_ℤ (pos (2 ^ 31))) (pos (2 ^ 31)) (to_z w64 (of_z w64 (to_z w64 (of_z w64 m.add) +ℤ to_z w64 (of_z w64 n.add))))
+    → l ≡ moved (numbers n) (to_z w32 (of_z w32 m.stops.lower))
+    → h ≡ moved (numbers n) (to_z w32 (of_z w32 m.stops.upper))
+    → FitsSigned w64 a → FitsSigned w32 l → FitsSigned w32 h
+    → stroke_map (to_z w64 (of_z w64 a)) (to_z w32 (of_z w32 l)) (to_z w32 (of_z w32 h)) ≡ joined (numbers m) (numbers n)
+joined_is m n a l h a_is l_is h_is a_fits l_fits h_fits =
+    let m_in = checked_in m in
+    let n_in = checked_in n in
+    let sum : to_z w64 (of_z w64 (to_z w64 (of_z w64 m.add) +ℤ to_z w64 (of_z w64 n.add))) ≡ m.add +ℤ n.add = omega (arith, ints) in
+    let add : to_z w64 (of_z w64 a) ≡ (joined (numbers m) (numbers n)).add = to_z-of_z w64 a a_fits ∙ a_is ∙ ap (held _ _) sum in
+    let low = carried w32 (moved (numbers n)) l m.stops.lower l_is l_fits (omega (arith, ints)) in
+    let high = carried w32 (moved (numbers n)) h m.stops.upper h_is h_fits (omega (arith, ints)) in
+    (λ i. stroke_map (add i) (low i) (high i))
 
 -- a word's map is in range
 word_in : (p : Stops) (x : ℕ) → x < 2 ^ 32 → Ordered (word p x)
