@@ -24,7 +24,7 @@ use Rattle.drivefile.proofs.Numbered.{block_file, block_first, block_of, block_s
 use Rattle.drivefile.proofs.Parts.{all_part, length_part}
 use Rattle.drivefile.proofs.SectionWords.{envelope_in, network_known, section_known, stroke_in}
 use Rattle.drivefile.proofs.Sealed.{payload_sealed, sealed_passed}
-use Rattle.drivefile.proofs.Rows.{all_counting, all_flat, counted}
+use Rattle.drivefile.proofs.Rows.{all_counting, all_joined}
 use Rattle.drivefile.specs.declared.block.Kind.TheVariants as block_kind
 
 -- the words of a section's values pass as its values
@@ -53,7 +53,7 @@ all_parts file long first values later = (
   long,
   All-append Passes (block_tests 0 header_due (block_at file 0) ++ header_tests (length file / 512) (block_at file 0)) _
       (All-append Passes (block_tests 0 header_due (block_at file 0)) (header_tests (length file / 512) (block_at file 0)) first values)
-      (all_flat Passes (rest_tests file) _ (counted _ 1 (length file / 512 - 1) (λ b l m. later b l (omega arith)))),
+      (all_joined Passes (rest_tests file) 1 (length file / 512 - 1) (λ b l m. later b l (omega arith))),
 )
 
 module _ (r : DriveRecord) (p : RecordRange r) where

@@ -7,8 +7,8 @@ use Rattle.std.proofs.lemmas.List.FromFn.{fill_by_all, get_or-map-range_with_len
 use Rattle.std.proofs.lemmas.Bool.Decides.{nat_tests}
 use Rattle.drivefile.specs.Bytes.{le32}
 use Rattle.drivefile.specs.Header.{blocks_for}
-use Rattle.drivefile.specs.Items.{copied, put_front, sample_at, sample_in, samples_in, samples_of, turn_at}
-use Rattle.drivefile.specs.Record.{copied_record, recorded, turn_of}
+use Rattle.drivefile.specs.Items.{copied, put_front, room_for, sample_at, sample_in, samples_in, samples_of, turn_at}
+use Rattle.drivefile.specs.Record.{copied_record, copying_record, recorded, turn_of}
 use Rattle.drivefile.specs.declared.header.Header.{Header}
 use Rattle.drivefile.proofs.Blocks.{block_is, count_is}
 
@@ -40,6 +40,9 @@ module _ (file : List ℕ) (blocks : List (List ℕ)) (is : blocks ≡ first_chu
 pub ruleset counts = (nat_tests, length-map-range_with_len)
 
 module _ (file : List ℕ) (h : Header) where
+  pub same_copying : (out : List ℕ) → room_for h.samples out ≡ copying_record (recorded file h) out
+  same_copying out = ap (λ n. room_for n out) (sym (length-map-range_with_len (sample_at file) 0 h.samples))
+
   pub same_copied : (out : List ℕ) → copied h file out ≡ copied_record (recorded file h) out
   same_copied out = ap (λ n. put_front n (samples_of file h.samples) out) (sym (length-map-range_with_len (sample_at file) 0 h.samples))
 

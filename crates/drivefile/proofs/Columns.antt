@@ -20,6 +20,9 @@ number_at bs rows k j long is h l =
 pub column_more : (bs : List ℕ) (k j : ℕ) → column bs (k + 1) j ≡ with_number (column bs k j) (le16 bs (16 * k + 2 * j))
 column_more bs k j = rw (add-one k) refl
 
+pub total_more : (bs : List ℕ) (k j : ℕ) → (column bs (k + 1) j).total ≡ (column bs k j).total + (column bs (k + 1) j).sum
+total_more bs k j = rw (add-one k) refl
+
 -- the terms of column j over the first k rows
 pub lane : List ℕ → ℕ → ℕ → ℕ
 lane bs zero j = 0
@@ -43,7 +46,7 @@ all_rows bs zero = refl
 all_rows bs (suc k) = let e : 8 * suc k ≡ 8 * k + 8 = omega arith in rw e (omega (arith, all_rows bs k, one_row bs k 8))
 
 -- a column's terms, by its sum and its total
-by_column : (bs : List ℕ) (k j : ℕ) → (8 * k + j + 1) * (column bs k j).sum ≡ lane bs k j + 8 * (column bs k j).total
+pub by_column : (bs : List ℕ) (k j : ℕ) → (8 * k + j + 1) * (column bs k j).sum ≡ lane bs k j + 8 * (column bs k j).total
 unfolding lane
 by_column bs zero j = omega arith
 by_column bs (suc k) j = let p : 2 * (8 * k + j) ≡ 16 * k + 2 * j = omega arith in rw p (omega (arith, by_column bs k j))
@@ -52,14 +55,15 @@ module _ (bs : List ℕ) (bytes : (i : ℕ) → get_or bs i 0 < 256) where
   number_fits : (i : ℕ) → le16 bs i ≤ 65535
   number_fits i = omega (arith, bytes i, bytes (i + 1))
 
-  pub column_fits : (k j : ℕ) → k ≤ 32 → ((column bs k j).sum ≤ 65535 * k) × ((column bs k j).total ≤ 2097120 * k)
-  column_fits zero j h = (omega arith, omega arith)
-  column_fits (suc k) j h =
-      let was = column_fits k j (omega arith) in
-      let n = number_fits (16 * k + 2 * j) in
-      (omega (arith, was.0, n), omega (arith, was.0, was.1, n))
+  pub column_fits : (k j : ℕ) → (column bs k j).sum ≤ 65535 * k
+  column_fits zero j = omega arith
+  column_fits (suc k) j = omega (arith, column_fits k j, number_fits (16 * k + 2 * j))
 
-  lane_fits : (k j : ℕ) → k ≤ 32 → j < 8 → lane bs k j ≤ 16776960 * k
+  pub total_fits : (k j : ℕ) → k ≤ 32 → (column bs k j).total ≤ 2097120 * k
+  total_fits zero j h = omega arith
+  total_fits (suc k) j h = omega (arith, total_fits k j (omega arith), column_fits k j, number_fits (16 * k + 2 * j))
+
+  pub lane_fits : (k j : ℕ) → k ≤ 32 → j < 8 → lane bs k j ≤ 16776960 * k
   unfolding lane
   lane_fits zero j h l = omega arith
   lane_fits (suc k) j h l =
@@ -83,7 +87,7 @@ whole_column bs k j all bytes last h is =
     let e : 257 + j ≡ 8 * 32 + j + 1 = omega arith in
     let p : (257 + j) * (column bs 32 j).sum ≡ lane bs 32 j + 8 * (column bs 32 j).total = rw e (by_column bs 32 j) in
     let more : lanes bs 32 (j + 1) ≡ lanes bs 32 j + lane bs 32 j = rw (add-one j) refl in
-    let f = (column_fits bs bytes 32 j (omega arith)).0 in
+    let f = column_fits bs bytes 32 j in
     rw (is, last) (record {
       parts = omega (arith, p, more);
       above = omega (arith, more);

@@ -10,7 +10,7 @@ use Rattle.drivefile.specs.File.{file_of, header_payload, items_block, part, sea
 use Rattle.drivefile.proofs.Codings.{Coding, byte, word, written_fit}
 use Rattle.drivefile.proofs.Numbered.{block_of, block_of_both, blocks, numbered, sample_blocks}
 use Rattle.drivefile.proofs.Parts.{all_part}
-use Rattle.drivefile.proofs.Rows.{all_flat, counted}
+use Rattle.drivefile.proofs.Rows.{all_joined}
 use Rattle.drivefile.proofs.SectionWords.{network_known, numbers, numbers_fit, section_known, turn_bytes}
 use Rattle.std.proofs.lemmas.Bool.Decides.{nat_tests}
 
@@ -50,4 +50,4 @@ module _ (r : DriveRecord) (p : RecordRange r) where
       (items_fit byte 3 500 (1 + sample_blocks r) r.turns (turn_bytes r p))
 
   pub file_fit : AllByRecursion Byte (file_of r)
-  file_fit = subst (AllByRecursion Byte) (sym (numbered r)) (all_flat Byte (block_of r) _ (counted _ 0 (blocks r) (λ b l m. block_fit b)))
+  file_fit = subst (AllByRecursion Byte) (sym (numbered r)) (all_joined Byte (block_of r) 0 (blocks r) (λ b l m. block_fit b))

@@ -12,6 +12,7 @@ pub mod Runs
 pub mod Ordered
 pub mod Numbered
 pub mod SectionWords
+pub mod Values
 pub mod Apart
 pub mod Accepted
 pub mod Exact

@@ -21,20 +21,24 @@ counting_split a m n =
 pub joined_counting : (f : ℕ → List ℕ) (a m n : ℕ) → flat_map f (range_with_len a (m + n)) ≡ flat_map f (range_with_len a m) ++ flat_map f (range_with_len (a + m) n)
 joined_counting f a m n = ap (flat_map f) (counting_split a m n) ∙ flat_map-append f (range_with_len a m) (range_with_len (a + m) n)
 
--- the parts of a list in a row are the list
-parts_from : (per : ℕ) (xs : List ℕ) (from j n : ℕ) → length xs ≤ per * (j + n) → flat_map (λ b. part per xs (b - from)) (range_with_len (from + j) n) ≡ drop (per * j) xs
-parts_from per xs from j zero long = sym (drop_all (per * j) xs (omega arith))
-parts_from per xs from j (suc n) long =
+-- the parts of a list in a row, from part j on, are the list from there
+parts_on : (per : ℕ) (xs : List ℕ) (from j n : ℕ) → length xs ≤ per * (j + n) → flat_map (λ b. part per xs (b - from)) (range_with_len (from + j) n) ≡ drop (per * j) xs
+parts_on per xs from j zero long = sym (drop_all (per * j) xs (omega arith))
+parts_on per xs from j (suc n) long =
     let here : from + j - from ≡ j = omega arith in
     let one : from + j + 1 ≡ from + (j + 1) = omega arith in
     let next : per * (j + 1) ≡ per * j + per = omega arith in
-    rw (here, one, parts_from per xs from (j + 1) n (omega arith), next) (sym (chunk-drop (per * j) per xs))
+    rw (here, one, parts_on per xs from (j + 1) n (omega arith), next) (sym (chunk-drop (per * j) per xs))
 
+pub parts_from : (per : ℕ) (xs : List ℕ) (from a n : ℕ) → from ≤ a → length xs ≤ per * (a - from + n) → flat_map (λ b. part per xs (b - from)) (range_with_len a n) ≡ drop (per * (a - from)) xs
+parts_from per xs from a n le long = let e : from + (a - from) ≡ a = omega arith in rw e at (parts_on per xs from (a - from) n long)
+
+-- all the parts are all of it
 pub parts_all : (per : ℕ) (xs : List ℕ) (from n : ℕ) → length xs ≤ per * n → flat_map (λ b. part per xs (b - from)) (range_with_len from n) ≡ xs
 parts_all per xs from n long =
     let first : from + 0 ≡ from = omega arith in
     let none : per * 0 ≡ 0 = omega arith in
-    rw (first, none) at (parts_from per xs from 0 n (omega arith))
+    rw (first, none) at (parts_on per xs from 0 n (omega arith))
 
 -- a part of the values of a function, one after another
 pub part_counting : (f : ℕ → ℕ) (per n j : ℕ) → part per (map f (range_with_len 0 n)) j ≡ map f (range_with_len (per * j) (min per (n - per * j)))

@@ -32,7 +32,10 @@ module _ {X : Type 0} (P : X → Type 0) where
   counting_all f a n h i l m =
       subst P (get_or-map-range_with_len f a n (i - a) i (f a) (omega arith) (omega arith)) (All-get_or P (map f (range_with_len a n)) (i - a) (f a) (omega (arith, length-map-range_with_len f a n)) h)
 
-  -- of each of the lists for the numbers of a stretch
+  -- of a list for each number of a stretch
+  pub all_joined : (f : ℕ → List X) (a n : ℕ) → ((b : ℕ) → a ≤ b → b < a + n → AllByRecursion P (f b)) → AllByRecursion P (flat_map f (range_with_len a n))
+  all_joined f a n h = all_flat f (range_with_len a n) (counted (λ b. AllByRecursion P (f b)) a n h)
+
   pub joined_all : (f : ℕ → List X) (a n : ℕ) → AllByRecursion P (flat_map f (range_with_len a n)) → (b : ℕ) → a ≤ b → b < a + n → AllByRecursion P (f b)
   joined_all f a n h b l m =
       let e : a + (b - a) ≡ b = omega arith in

@@ -1,6 +1,6 @@
 // The header: block 0 of the file, and its values as types.
-ghost use Rattle.std.specs.Prelude.{◌≡◌, ◌+◌, ◌<◌, ◌≤◌, [], length, slice_index_or, Some, Ok};
-ghost use Rattle.drivefile.specs.Header.{blocks_for, header_of, header_values, in_range, kind_of, needed, network_of, none_at_fault, section_of, stroke_fault, without_second};
+ghost use Rattle.std.specs.Prelude.{◌≡◌, ◌+◌, ◌<◌, ◌≤◌, [], length, slice_index_or, Some, None, Ok, IfOk};
+ghost use Rattle.drivefile.specs.Header.{InRange, blocks_for, header_of, header_values, in_range, kind_of, needed, network_of, none_at_fault, section_of, stroke_fault, values_fault, without_second};
 ghost use Rattle.drivefile.specs.Names.{network_word, section_word};
 
 use crate::block::{BLOCK, Block, Due, Kind};
@@ -151,7 +151,8 @@ fn test_stroke(start: i32, lower: i32, upper: i32) -> Result<(), RecordFault>
 impl SectionChoice {
     // The section, where its start state and its parameters are in range.
     fn in_range(self) -> Result<SectionChoice, RecordFault>
-        ensures { result ≡ in_range self }
+        ensures value { result ≡ in_range self }
+        ensures values { IfOk result (λ it. values_fault it ≡ None) }
     {
         match self {
             SectionChoice::Stroke {
@@ -169,7 +170,8 @@ impl SectionChoice {
 
     // The section in range, where it has no second parameter: its place in the header is zero.
     fn without_second(self, second: u32) -> Result<SectionChoice, RecordFault>
-        ensures { result ≡ without_second self second }
+        ensures value { result ≡ without_second self second }
+        ensures values { IfOk result (λ it. values_fault it ≡ None) }
     {
         let section = self.in_range()?;
         if second != 0 {
@@ -182,7 +184,8 @@ impl SectionChoice {
 impl SectionKind {
     // The section of this kind, from the words at bytes 20, 24 and 28.
     fn section(self, start: u32, first: u32, second: u32) -> Result<SectionChoice, RecordFault>
-        ensures { result ≡ section_of self start first second }
+        ensures value { result ≡ section_of self start first second }
+        ensures values { IfOk result (λ it. values_fault it ≡ None) }
     {
         let signed = start.cast_signed();
         match self {
@@ -208,7 +211,8 @@ impl SectionKind {
 
 // The header's values, in the order of their tests. `blocks` counts those of the whole file.
 fn header_values(bytes: &[u8; BLOCK], blocks: usize) -> Result<Header, RecordFault>
-    ensures { result ≡ header_values blocks bytes.now }
+    ensures value { result ≡ header_values blocks bytes.now }
+    ensures range { IfOk result InRange }
 {
     let kind = SectionKind::try_from(bytes[8])?;
     let exponent = bytes[9];
@@ -246,7 +250,8 @@ fn header_values(bytes: &[u8; BLOCK], blocks: usize) -> Result<Header, RecordFau
 // The header of a file, from its blocks.
 pub(crate) fn read_header(blocks: &[[u8; BLOCK]]) -> Result<Header, RecordFault>
     requires { 1 ≤ length blocks.now }
-    ensures { result ≡ header_of (length blocks.now) (slice_index_or blocks.now 0 []) }
+    ensures value { result ≡ header_of (length blocks.now) (slice_index_or blocks.now 0 []) }
+    ensures range { IfOk result InRange }
 {
     let bytes = &blocks[0];
     let block = Block { number: 0, bytes };

@@ -1,6 +1,7 @@
 // The reader's tests over a whole file: its length, its header, then each later block.
-ghost use Rattle.std.specs.Prelude.{◌≡◌, ◌+◌, ◌-◌, ◌*◌, ◌/◌, ◌^◌, ◌<◌, ◌≤◌, min, true, false, length, MatchResult};
+ghost use Rattle.std.specs.Prelude.{◌≡◌, ◌+◌, ◌-◌, ◌*◌, ◌/◌, ◌^◌, ◌<◌, ◌≤◌, min, true, false, length, IfOk, MatchResult};
 ghost use Rattle.std.specs.Simd.{first_chunks};
+ghost use Rattle.drivefile.specs.Header.{InRange};
 ghost use Rattle.drivefile.specs.Reading.{later_block, legal_length, reading, rest_test, sample_block, turn_block};
 ghost use Rattle.faults.specs.declared.block.BlockFault.TheVariants.{Length};
 
@@ -88,7 +89,8 @@ fn test_rest(blocks: &[[u8; BLOCK]], header: Header) -> Result<(), RecordFault>
 
 // The header of a file that passes every test, or the first fault.
 pub(crate) fn test_file(file: &[u8]) -> Result<Header, RecordFault>
-    ensures { result ≡ reading file.now }
+    ensures value { result ≡ reading file.now }
+    ensures range { IfOk result InRange }
 {
     let blocks = blocks_of(file)?;
     let header = read_header(blocks)?;

@@ -1,11 +1,12 @@
 use Rattle.std.proofs.Common.{refl, arith}
 use Rattle.std.proofs.lemmas.Grind.{common_steps}
-use Rattle.drivefile.proofs.Columns.{column_fits, column_more, lanes, number_at, whole_column, whole_sum}
+use Rattle.drivefile.proofs.Columns.{column_fits, column_more, lanes, number_at, total_fits, whole_column, whole_sum}
 use Rattle.drivefile.proofs.check.weighted_sum.Goals as goal
 
 pub add-requires : goal.add-requires
 add-requires c =
-    let fits = column_fits c.args.block.now c.fits-block c.loop-row.row-index c.loop-j.j (omega arith) in
+    let sums = column_fits c.args.block.now c.fits-block c.loop-row.row-index c.loop-j.j in
+    let totals = total_fits c.args.block.now c.fits-block c.loop-row.row-index c.loop-j.j (omega arith) in
     grind (arith, common_steps)
 
 pub loop-j-preserved : goal.loop-j-preserved

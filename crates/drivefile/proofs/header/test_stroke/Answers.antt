@@ -1,18 +1,10 @@
-use Rattle.std.proofs.Common.{◌≡◌, true, ℤ, pos, neg_ℤ, Some, None, Ok, Option, Result, is_le, int_cmp, refl, w32, arith, rules}
+use Rattle.std.proofs.Common.{◌≡◌, true, ℤ, pos, neg_ℤ, is_le, int_cmp, w32, arith, rules}
 use Rattle.std.proofs.lemmas.Grind.{common_steps}
 use Rattle.std.proofs.lemmas.Int.{ints, to_z-of_z}
-use Rattle.faults.specs.declared.record.Value.{Value}
-use Rattle.faults.specs.declared.record.RecordFault.{RecordFault}
-use Rattle.sections.specs.Made.{Made}
 use Rattle.sections.specs.Range.{within}
 use Rattle.sections.specs.Stroke.{reach}
-use Rattle.drivefile.specs.Header.{none_at_fault}
+use Rattle.drivefile.proofs.Values.{no_fault}
 use Rattle.drivefile.proofs.header.test_stroke.Goals as goal
-
--- where no parameter is refused, the definition goes on
-no_fault : {T U : Type 0} (o : Option Value) (t : T) (P : T → Type 0) (rest : Result U RecordFault) → Made o (Ok t) P → none_at_fault o rest ≡ rest
-no_fault None t P rest h = refl
-no_fault (Some v) t P rest h = absurd h
 
 -- a number that the range test lets through is within
 within_range : (low high x : ℤ) → is_le (int_cmp low x) ≡ true → is_le (int_cmp x high) ≡ true → within low high x ≡ true

@@ -9,15 +9,15 @@ test_rest-requires-clause-most c =
     let ok = c.in_ok-blocks.ensures in
     omega (arith, count_is _ _ ok.1, (legal (length c.args.file.now) ok.0).most)
 
-pub returns-in_err-header : goal.returns-in_err-header
-returns-in_err-header c =
+pub returns-in_err-header-clause-value : goal.returns-in_err-header-clause-value
+returns-in_err-header-clause-value c =
     let p = err_from_is_err_and c.from_residual-in_err-header.result c.from_residual-in_err-header.ensures.1 in
-    rw (p.1, p.2, reading_is _ _ c.in_ok-blocks.ensures.1 c.in_ok-blocks.ensures.0, ← c.in_err-header.ensures) refl
+    rw (p.1, p.2, reading_is _ _ c.in_ok-blocks.ensures.1 c.in_ok-blocks.ensures.0, ← c.in_err-header.ensures.value) refl
 
-pub returns-in_err-test_rest : goal.returns-in_err-test_rest
-returns-in_err-test_rest c =
+pub returns-in_err-test_rest-clause-value : goal.returns-in_err-test_rest-clause-value
+returns-in_err-test_rest-clause-value c =
     let p = err_from_is_err_and c.from_residual-in_err-test_rest.result c.from_residual-in_err-test_rest.ensures.1 in
-    rw (p.1, p.2, reading_is _ _ c.in_ok-blocks.ensures.1 c.in_ok-blocks.ensures.0, ← c.in_ok-header.ensures, ← c.in_err-test_rest.ensures) refl
+    rw (p.1, p.2, reading_is _ _ c.in_ok-blocks.ensures.1 c.in_ok-blocks.ensures.0, ← c.in_ok-header.ensures.value, ← c.in_err-test_rest.ensures) refl
 
-pub returns : goal.returns
-returns c = rw (reading_is _ _ c.in_ok-blocks.ensures.1 c.in_ok-blocks.ensures.0, ← c.in_ok-header.ensures, ← c.in_ok-test_rest.ensures) refl
+pub returns-clause-value : goal.returns-clause-value
+returns-clause-value c = rw (reading_is _ _ c.in_ok-blocks.ensures.1 c.in_ok-blocks.ensures.0, ← c.in_ok-header.ensures.value, ← c.in_ok-test_rest.ensures) refl
