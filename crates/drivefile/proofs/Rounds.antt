@@ -35,6 +35,10 @@ module _ (blocks : List (List ℕ)) where
       let e : 125 * b + i ≡ b * 125 + i = omega arith in
       rw (e, div-mul-add b 125 i less, mod-mul-add b 125 i less) refl
 
+  -- a list of n places that holds the first n samples is these
+  pub copied_all : (out : List ℕ) (m n : ℕ) → Copied out m → m ≡ n → length out ≡ n → out ≡ samples_in blocks n
+  copied_all out m n all e long = fill_by_all (sample_in blocks) out n 0 long (λ k less. all k (omega arith))
+
   module _ (out words : List ℕ) (b s m : ℕ) (most : m ≤ 125) (room : 125 * b + m ≤ length out) (is : words ≡ take m (block_words (get_or blocks b []))) (before : Copied out (125 * b)) where
     abbrev word : ℕ → ℕ
     word i = le32 (get_or blocks b []) (8 + 4 * i)
@@ -69,3 +73,6 @@ module _ (blocks : List (List ℕ)) where
         length-append (take (125 * b) out) (words ++ drop s (drop (125 * b) out)) ∙ ap (λ n. length (take (125 * b) out) + n) (length-append words (drop s (drop (125 * b) out)))
         ∙ omega (arith, front, after, tail, words_long) in
         fill_by_all (sample_in blocks) (put_mid (125 * b) s out words) (length out) 0 long (copied_more (length out) (sym whole))
+
+-- a loop that copied all has copied the samples
+pub ruleset copied_whole = (copied_all, length-take)

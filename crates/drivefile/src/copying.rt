@@ -17,6 +17,7 @@ fn block_words(block: &[u8; BLOCK]) -> [u32; SAMPLES_PER_BLOCK]
 
 // Copies the samples to all of `out`, from the blocks that hold them: the full blocks, then the last, where it is not full (one
 // loop for both takes a fifth longer). Places are named by number: what is written through `chunks_mut` no proof knows.
+#[tactic(auto, using(crate::proofs::Rounds::copied_whole))]
 pub(crate) fn copy_samples(blocks: &[[u8; BLOCK]], out: &mut [u32])
     requires { length blocks.now ≡ blocks_for (length out.old) 125 }
     ensures { out.new ≡ samples_in blocks.now (length out.old) }

@@ -43,7 +43,7 @@ impl<'a> Record<'a> {
 
     // Copies the samples to the front of `out` and leaves the rest; refuses a list that is too short. `of_record` and
     // `after_of_record` say the same of the record's own list of samples.
-    #[tactic(auto, using(crate::proofs::Calls::counts))]
+    #[tactic(auto, using(crate::proofs::Calls::copies))]
     pub fn samples(&self, out: &mut [u32]) -> Result<(), RunFault>
         ensures value { result ≡ copying self.now.header out.old }
         ensures after { out.new ≡ copied self.now.header self.now.file.now out.old }
@@ -60,7 +60,7 @@ impl<'a> Record<'a> {
     }
 
     // The worker of a turn by its number from 0, or none. `of_record` says the same of the record's own list of turns.
-    #[tactic(auto, using(crate::proofs::Calls::counts))]
+    #[tactic(auto, using(crate::proofs::Calls::reads))]
     pub fn turn(&self, number: usize) -> Option<u8>
         ensures value { result ≡ turn_at self.now.file.now self.now.header number }
         ensures of_record { result ≡ turn_of (recorded self.now.file.now self.now.header) number }

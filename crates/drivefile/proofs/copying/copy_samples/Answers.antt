@@ -1,7 +1,6 @@
-use Rattle.std.proofs.Common.{◌≡◌, length, ◌+◌, ◌-◌, ◌*◌, ◌<◌, ◌/◌, [], get_or, sym, refl, subst, ap, ◌∙◌, arith, take, drop}
+use Rattle.std.proofs.Common.{◌≡◌, ℕ, List, length, ◌+◌, ◌-◌, ◌*◌, ◌<◌, ◌/◌, [], get_or, sym, refl, subst, ap, ◌∙◌, arith, take, drop}
 use Rattle.std.proofs.lemmas.List.{get_or-take, length-drop, length-take, take_all}
-use Rattle.std.proofs.lemmas.List.FromFn.{fill_by_all}
-use Rattle.drivefile.specs.Items.{block_words, sample_in, samples_in}
+use Rattle.drivefile.specs.Items.{block_words, samples_in}
 use Rattle.drivefile.proofs.Rounds.{Copied, copied_last, copied_more}
 use Rattle.drivefile.proofs.copying.copy_samples.Goals as goal
 
@@ -16,6 +15,10 @@ loop-number-preserved c =
     (c.copy_from_slice.ensures.after ∙ c.block_words.ensures ∙ ap block_words (get_or-take full blocks b [] within) ∙ sym (take_all 125 words (omega arith)))
     c.loop-number.invariant (125 * (b + 1)) (omega arith)
 
+-- the words of block i, where i is b
+words_at : (blocks : List (List ℕ)) (block words : List ℕ) (i b : ℕ) → words ≡ block_words block → block ≡ get_or blocks i [] → i ≡ b → words ≡ block_words (get_or blocks b [])
+words_at blocks block words i b is here e = is ∙ ap block_words (here ∙ ap (λ k. get_or blocks k []) e)
+
 pub returns-in-Some : goal.returns-in-Some
 returns-in-Some c =
     let blocks = c.args.blocks.now in
@@ -28,13 +31,6 @@ returns-in-Some c =
     copied_last blocks out c.copy_from_slice-in-Some.new.self full rest rest (omega (arith, long)) (omega (arith, long))
     (c.copy_from_slice-in-Some.ensures.after
     ∙ ap (λ k. take k c.block_words-in-Some.result) count
-    ∙ ap (take rest) (c.block_words-in-Some.ensures ∙ ap block_words (c.in-Some.ensures.lookup.3.1 [])))
+    ∙ ap (take rest) (words_at blocks _ _ _ full c.block_words-in-Some.ensures (c.in-Some.ensures.lookup.3.1 []) (omega (arith, c.requires, c.in-Some.ensures.lookup.3))))
     (subst (λ b. Copied blocks out (125 * b)) all c.loop-number.invariant) (omega (arith, long)) refl
     ∙ ap (samples_in blocks) long
-
-pub returns-in_default : goal.returns-in_default
-returns-in_default c =
-    let blocks = c.args.blocks.now in
-    let full = length c.args.out.now / 125 in
-    let whole : 125 * c.loop-number.number ≡ length c.args.out.now = omega (arith, c.requires, c.in_default.ensures.lookup.3, c.loop-number.auto.number-end, c.loop-number-test.false, length-take full blocks) in
-    fill_by_all (sample_in blocks) c.loop-number.out (length c.args.out.now) 0 c.loop-number.auto.out (λ k less. c.loop-number.invariant k (omega (arith, whole, less)))
