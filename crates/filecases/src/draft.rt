@@ -48,23 +48,17 @@ fn put(bytes: &mut [u8], at: usize, size: Size, value: usize) {
     }
 }
 
-// The number in two bytes, little-endian. A byte that is missing counts as 0.
-fn half(bytes: &[u8]) -> u16 {
-    match bytes {
-        [low, high] => u16::from_le_bytes([*low, *high]),
-        [low] => u16::from(*low),
-        _ => 0,
-    }
-}
-
 // The check of the block that these bytes begin with: the sum of its first 255 numbers, each times its place from 1,
-// modulo 65,521. A `fold`, since `sum` asks for a bound of the terms, and that goal stayed open.
+// modulo 65,521. Where the file ends within one of them, so that no whole pair is there, it has no place for a check
+// either. The sum is at most 65,535 times 32,640, which fits. A `fold`, since `sum` asks for a bound of the terms, and
+// that goal stayed open.
 fn check(bytes: &[u8]) -> usize {
-    let sum = bytes
-        .chunks(2)
-        .zip(1u8..=255)
-        .map(|(pair, place)| u64::from(half(pair)) * u64::from(place))
-        .fold(0, u64::wrapping_add);
+    let (pairs, _) = bytes.as_chunks::<2>();
+    let sum = pairs
+        .iter()
+        .zip(1u16..256)
+        .map(|(pair, place)| u32::from(u16::from_le_bytes(*pair)) * u32::from(place))
+        .fold(0, u32::wrapping_add);
     (sum % 65_521) as usize
 }
 
