@@ -84,9 +84,12 @@ impl Draft {
         &mut self.bytes[start..]
     }
 
-    // So many zero bytes.
+    // So many zero bytes, in room for a power of two of them: alone, `resize` would ask for twice the old room where a
+    // file is only a little longer.
     pub(crate) fn resize(&mut self, length: usize) -> Result<(), AllocError> {
+        let room = length.checked_next_power_of_two().ok_or(AllocError)?;
         self.bytes.clear();
+        self.bytes.reserve_exact(room)?;
         self.bytes.resize(length, 0)
     }
 
