@@ -1,6 +1,7 @@
 // Faults of one block of a drive file, and of the file's length.
 ghost use Rattle.std.specs.Prelude.{◌≡◌};
-ghost use Rattle.faults.specs.Told.{block_told};
+ghost use Rattle.faults.specs.Told.{block_told, refusal};
+ghost use Rattle.faults.specs.declared.refusal.Layer.TheVariants.{Block};
 
 use crate::refusal::{Layer, Refusal};
 
@@ -31,17 +32,23 @@ impl BlockFault {
     pub fn told(&self) -> Refusal
         ensures { result ≡ block_told self.now }
     {
-        let (code, block, byte) = match *self {
-            BlockFault::Length => (1, 0, 0),
-            BlockFault::Check { block } => (2, block, 510),
-            BlockFault::Frame { block, field } => (3, block, field as usize),
-            BlockFault::Filling { block, byte } => (4, block, byte),
-        };
-        Refusal {
-            code,
-            layer: Layer::Block,
-            block,
-            byte,
+        match *self {
+            BlockFault::Length => row(1, 0, 0),
+            BlockFault::Check { block } => row(2, block, 510),
+            BlockFault::Frame { block, field } => row(3, block, field as usize),
+            BlockFault::Filling { block, byte } => row(4, block, byte),
         }
+    }
+}
+
+// A row of the block layer.
+fn row(code: u8, block: usize, byte: usize) -> Refusal
+    ensures { result ≡ refusal code Block block byte }
+{
+    Refusal {
+        code,
+        layer: Layer::Block,
+        block,
+        byte,
     }
 }
