@@ -4,6 +4,7 @@ ghost use Rattle.sections.specs.Range.{held};
 ghost use Rattle.sections.specs.Made.{Made};
 ghost use Rattle.sections.specs.Stroke.{stops_fault};
 
+use crate::stroke::reading::held;
 use crate::stroke::{REACH, Stops};
 use faults::{RecordFault, Value};
 
@@ -37,6 +38,6 @@ impl Stops {
     pub(crate) fn hold(self, value: i64) -> i32
         ensures { result ≡ held self.lower self.upper value }
     {
-        value.clamp(self.lower as i64, self.upper as i64) as i32
+        held(self.lower as i64, self.upper as i64, value) as i32
     }
 }

@@ -49,8 +49,7 @@ impl Checked {
     pub(crate) fn moved(self, state: i32) -> i32
         ensures { result ≡ moved (numbers self) state }
     {
-        let Stops { lower, upper } = self.stops;
-        held(lower as i64, upper as i64, state as i64 + self.add) as i32
+        self.stops.hold(state as i64 + self.add)
     }
 
     // One map with the effect of this one and then `second`.
@@ -92,9 +91,8 @@ pub(crate) fn read_state(state: i32) -> i32
     }
 }
 
-// `value` held to low .. high. By `min` and `max`, for maps: what `clamp` gives the compiler does not know to be in range, and
-// tests again. (The recursion holds by `clamp`, in `Stops::hold`, which is the faster there.)
-fn held(low: i64, high: i64, value: i64) -> i64
+// `value` held to low .. high. By `min` and `max`: what `clamp` gives the compiler does not know to be in range, and tests again.
+pub(crate) fn held(low: i64, high: i64, value: i64) -> i64
     ensures { result ≡ held low high value }
 {
     high.min(low.max(value))

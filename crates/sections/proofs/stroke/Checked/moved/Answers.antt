@@ -4,6 +4,3 @@ use Rattle.sections.proofs.stroke.Checked.moved.Goals as goal
 
 pub returns : goal.returns
 returns c = omega (arith, ints, clamps)
-
-pub overflow_cast-result : goal.overflow_cast-result
-overflow_cast-result c = omega (arith, ints, clamps)
